@@ -1,0 +1,7 @@
+pub mod Rows
+pub mod Relations
+pub mod Tables
+pub mod Lesser
+pub mod Quotas
+pub mod Words
+pub mod Changes
