@@ -77,3 +77,6 @@ each-open w xs l h = fill-by-all (size w) xs 40 0 l h
 pub limits-are : (w n : ℕ) (live : Bool) (each : List ℕ) → n ≡ cond live (base w 40) 0 → each ≡ each-limit live w → record { width = w; total = n; each = each } ≡ bit-limits live w
 unfolding bit-limits
 limits-are w n live each e f = λ i. record { width = w; total = e i; each = f i }
+
+pub limits-same : (live was : Bool) (w v : ℕ) → live ≡ was → w ≡ v → bit-limits live w ≡ bit-limits was v
+limits-same live was w v p q = λ i. bit-limits (p i) (q i)

@@ -13,6 +13,7 @@ ghost use Rattle.bit_places.specs.Enumerated.{Enumerated};
 ghost use Rattle.bit_places.specs.Marked.{marked};
 ghost use Rattle.bit_places.specs.Sought.{Low, Sought};
 ghost use Rattle.bit_places.specs.Opened.{bit-limits, each-limit, check-answer, cleared, words-for};
+ghost use Rattle.bit_places.proofs.Openings.{limits-same};
 ghost use Rattle.bit_places.proofs.Lawfuls.{bits-lawful};
 use crate::places::base;
 use crate::places::place;
@@ -144,6 +145,8 @@ pub impl<'a> Table for Bits<'a> as BitTable {
     ghost bounds = { λ l. bit-limits (l .live) (l .width) };
 
     ghost grew = { λ l r t. (now (t .words) ≡ raised (now (l .words)) (place (l .width) r)) × (t .width ≡ l .width) × (t .places ≡ l .places) × (t .live ≡ l .live) × (name (t .words) ≡ name (l .words)) };
+
+    ghost steady = { λ l r t g. limits-same (t .live) (l .live) (t .width) (l .width) (g .3) (g .1) };
 
     ghost lawful = { λ l. bits-lawful (now (l .words)) (l .width) (l .places) (l .live) (l .narrow) (l .sized) };
 

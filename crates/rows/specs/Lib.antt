@@ -6,3 +6,4 @@ pub mod Quotas
 pub mod Openings
 pub mod Words
 pub mod Changes
+pub mod Adding

@@ -14,6 +14,8 @@ pub impl<'b, T: Table> Table for &'b mut T as LentTable {
 
     ghost grew = { λ s r t. T·Table .grew (now s) r (now t) × (name t ≡ name s) };
 
+    ghost steady = { λ s r t g. T·Table .steady (now s) r (now t) (g .0) };
+
     ghost lawful = { λ t. T·Table .lawful (now t) };
 
     fn add(&mut self, r: Row) -> Result<Outcome, TableFault> {

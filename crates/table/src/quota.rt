@@ -1,7 +1,7 @@
 // A quota: a table with maxima of its own, one for each relation, on any table below.
-ghost use mathlib.Core.Path.{_≡_};
+ghost use mathlib.Core.Path.{_≡_, ap};
 ghost use Rattle.rows.specs.Quotas.{capped};
-ghost use Rattle.rows.proofs.Lawfuls.{capped-lawful};
+ghost use Rattle.rows.proofs.Lawfuls.{capped-lawful, capped-steady};
 use crate::Table;
 use crate::maxima::Maxima;
 use rows::answer::Limits;
@@ -39,6 +39,8 @@ pub impl<T: Table> Table for Quota<T> as QuotaTable {
     ghost bounds = { λ q. capped (q .own .most) (T·Table .bounds (q .below)) };
 
     ghost grew = { λ q r t. T·Table .grew (q .below) r (t .below) × (t .own ≡ q .own) };
+
+    ghost steady = { λ q r t g. capped-steady (q .own .most) (t .own .most) (T·Table .bounds (q .below)) (T·Table .bounds (t .below)) (ap (λ o. o .most) (g .1)) (T·Table .steady (q .below) r (t .below) (g .0)) };
 
     ghost lawful = { λ q. capped-lawful (q .own .most) (T·Table .bounds (q .below)) (T·Table .rows (q .below)) (q .own .forty) (T·Table .lawful (q .below)) };
 
