@@ -10,3 +10,4 @@ pub mod Seeks
 pub mod Openings
 pub mod Bases
 pub mod Enumerates
+pub mod Raises

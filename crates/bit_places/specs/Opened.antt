@@ -8,7 +8,7 @@ use Rattle.std.specs.Iters.{counting}
 use Rattle.std.specs.declared.result.Result.{Result}
 use Rattle.rows.specs.declared.answer.Limits.{Limits}
 use Rattle.rows.specs.declared.answer.OpenFault.{OpenFault}
-use Rattle.rows.specs.Openings.{opening}
+use Rattle.rows.specs.Openings.{opening, if-open}
 use Rattle.bit_places.specs.Places.{size, base}
 
 -- the limits of a table that opened, and of one that was refused
@@ -36,3 +36,16 @@ cleared n ws = replicate n 0 ++ drop n ws
 -- how many words hold the bits
 abbrev pub words-for : ℕ → ℕ
 words-for w = (base w 40 + 63) / 64
+
+-- the limits, the width and the words that a making gives
+abbrev pub made-live : ℕ → ℕ → Bool
+made-live len w = if-open (check-answer len w) true false
+
+abbrev pub made-width : ℕ → ℕ → ℕ
+made-width len w = if-open (check-answer len w) w 1
+
+abbrev pub made-limits : ℕ → ℕ → Limits
+made-limits len w = bit-limits (made-live len w) (made-width len w)
+
+abbrev pub made-words : List ℕ → ℕ → List ℕ
+made-words ws w = if-open (check-answer (length ws) w) (cleared (words-for w) ws) ws

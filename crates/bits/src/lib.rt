@@ -2,17 +2,16 @@
 // first.
 ghost use mathlib.Core.Path.{_≡_};
 ghost use mathlib.Core.List.{[]};
-ghost use mathlib.Core.Bool.{true, false, cond};
+ghost use mathlib.Core.Bool.{false, cond};
 ghost use Prim.Native.Nat.{_*_, _<_, _≤_};
 ghost use lib.ListN.{length};
 ghost use denote.Ref.{now, name};
-ghost use Rattle.rows.specs.Openings.{if-open};
 ghost use Rattle.bit_places.specs.Places.{base, place};
 ghost use Rattle.bit_places.specs.Bit.{bit, raised};
 ghost use Rattle.bit_places.specs.Enumerated.{Enumerated};
 ghost use Rattle.bit_places.specs.Marked.{marked};
 ghost use Rattle.bit_places.specs.Sought.{Low, Sought};
-ghost use Rattle.bit_places.specs.Opened.{bit-limits, each-limit, check-answer, cleared, words-for};
+ghost use Rattle.bit_places.specs.Opened.{bit-limits, each-limit, check-answer, words-for, made-live, made-width, made-words};
 ghost use Rattle.bit_places.proofs.Openings.{limits-same};
 ghost use Rattle.bit_places.proofs.Lawfuls.{bits-lawful};
 use crate::places::base;
@@ -27,6 +26,7 @@ use rows::relation::RELATIONS;
 use rows::row::Row;
 use table::Table;
 
+pub mod fill;
 mod places;
 
 // No bit table is wider than this.
@@ -63,10 +63,10 @@ impl<'a> Bits<'a> {
     // A table with no row over the words, of which it clears those that it needs; past a refusal of `check`, one that
     // takes no row and clears no word.
     pub fn make(words: &'a mut [u64], width: u32) -> Bits<'a>
-        ensures words { λ l. ⌜ now (l .words) ≡ if-open (check-answer (length (now (words .entry))) width) (cleared (words-for width) (now (words .entry))) (now (words .entry)) ⌝ }
+        ensures words { λ l. ⌜ now (l .words) ≡ made-words (now (words .entry)) width ⌝ }
         ensures place { λ l. ⌜ name (l .words) ≡ name (words .entry) ⌝ }
-        ensures live { λ l. ⌜ l .live ≡ if-open (check-answer (length (now (words .entry))) width) true false ⌝ }
-        ensures width { λ l. ⌜ l .width ≡ if-open (check-answer (length (now (words .entry))) width) width 1 ⌝ }
+        ensures live { λ l. ⌜ l .live ≡ made-live (length (now (words .entry))) width ⌝ }
+        ensures width { λ l. ⌜ l .width ≡ made-width (length (now (words .entry))) width ⌝ }
         ensures rows { λ l. ⌜ marked (l .width) (now (l .words)) 0 (l .places) ≡ [] ⌝ }
     {
         let Ok(()) = Bits::check(words, width) else {
