@@ -4,6 +4,7 @@ ghost use mathlib.Core.List.{List};
 ghost use Prim.Native.Nat.{ℕ, _<_};
 ghost use lib.ListN.{length, getD, set, replicate};
 ghost use Rattle.rows.specs.Lesser.{lesser};
+use rows::relation::RELATIONS;
 
 #[derive(Clone, Copy)]
 pub struct Maxima {
@@ -23,8 +24,9 @@ impl Maxima {
     pub fn limit(&mut self, relation: u32, most: u32)
         ensures { λ _. ⌜ now (self .exit) .most ≡ set (now (self .entry) .most) relation most ⌝ }
     {
-        if relation < 40 {
-            self.most[relation as usize] = most;
+        let at = relation as usize;
+        if relation < RELATIONS {
+            self.most[at] = most;
         }
     }
 
@@ -32,7 +34,7 @@ impl Maxima {
     pub fn of(&self, relation: u32) -> u32
         ensures { λ r. ⌜ r ≡ getD (now (self .entry) .most) relation 0 ⌝ }
     {
-        if relation < 40 {
+        if relation < RELATIONS {
             self.most[relation as usize]
         } else {
             0
