@@ -3,5 +3,7 @@ pub mod Relations
 pub mod Tables
 pub mod Lesser
 pub mod Quotas
+pub mod Openings
 pub mod Words
 pub mod Changes
+pub mod Adding

@@ -1,0 +1,13 @@
+pub mod Digits
+pub mod Placed
+pub mod RaisedBits
+pub mod Marks
+pub mod Crowds
+pub mod Sizes
+pub mod Lawfuls
+pub mod Tabled
+pub mod Seeks
+pub mod Openings
+pub mod Bases
+pub mod Enumerates
+pub mod Raises
