@@ -1,2 +1,3 @@
 mod Atoms
 mod Bytes
+mod Files

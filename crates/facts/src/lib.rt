@@ -5,3 +5,4 @@ pub mod number;
 pub mod point;
 pub mod reader;
 pub mod record;
+pub mod whole;

@@ -15,6 +15,7 @@ use rows::relation;
 use rows::row::Row;
 
 // The bytes that are left, and how many stood before them.
+#[derive(Drop)]
 pub struct Reader<'a> {
     left: &'a [u8],
     offset: usize,
