@@ -13,6 +13,7 @@ use lib.ListN.{length, getD, take, drop, length-append}
 use Rattle.std.specs.shelf.Lists.{All}
 use Rattle.std.specs.declared.option.Option.{Option}
 use Rattle.std.specs.declared.option.Option.the-variants.{Some, None}
+use Rattle.std.specs.declared.result.Result.{Result}
 use Rattle.std.specs.declared.result.Result.the-variants.{Ok, Err}
 use Rattle.std.proofs.shelf.Elements.{all-push}
 use Rattle.std.proofs.shelf.Ways.{tells}
@@ -22,7 +23,7 @@ use Rattle.rows.specs.declared.row.Row.{Row}
 use Rattle.facts.specs.declared.record.Record.{Record}
 use Rattle.facts.specs.declared.record.ReadFault.{ReadFault}
 use Rattle.facts.specs.declared.record.ReadFault.the-variants.{LoneByte, UnknownMark, Cut}
-use Rattle.facts.specs.Format.{marks, mark, bytes-of, codes-of, written, Fact, file, records, Refused, Answered}
+use Rattle.facts.specs.Format.{marks, mark, bytes-of, codes-of, written, Fact, file, records, Marked, Refused, fault-offset, Answered, Same}
 use Rattle.facts.specs.declared.whole.WholeFault.the-variants.{Unread}
 use Rattle.facts.specs.Whole.{ReadWhole, Stopped}
 
@@ -194,6 +195,11 @@ end-not-refused (LoneByte at) h = omega (arith, h)
 end-not-refused (UnknownMark at) h = omega (arith, h .0)
 end-not-refused (Cut at) h = omega (arith, ap length (h .1 .0 .1), mark-long (h .0) (h .1 .0 .0))
 
+lone-not-marked : (bytes : List ℕ) (k : ℕ) → length bytes ≡ 1 → Marked k bytes → ⊥
+lone-not-marked bytes k l m =
+    let all : take 2 bytes ≡ bytes = take-all 2 bytes (omega arith) in
+    omega (arith, ap length (sym all ∙ m .1), mark-long k (m .0))
+
 -- the file of some facts is the file of no others
 
 starts-long : (r : Row) (us : List ℕ) → Fact r → [] ≡ written r ++ us → ⊥
@@ -218,6 +224,46 @@ file-not-stopped (r ∷ rs) [] rest fault f g e h =
 file-not-stopped (r ∷ rs) (s ∷ ss) rest fault f g e h =
     let p = written-same r s (file rs) (file ss ++ rest) (f .0) (g .0) (e ∙ append-assoc (written s) (file ss) rest) in
     file-not-stopped rs ss rest fault (f .1) (g .1) (p .1) h
+
+-- so the reader has one answer only
+
+same-fault : (bytes : List ℕ) (f g : ReadFault) → fault-offset f ≡ fault-offset g → Refused bytes f → Refused bytes g → f ≡ g
+same-fault bytes (LoneByte at) (LoneByte at′) e h i = ap LoneByte e
+same-fault bytes (LoneByte at) (UnknownMark at′) e h i = absurd (omega (arith, h, i .0))
+same-fault bytes (LoneByte at) (Cut at′) e h i = absurd (lone-not-marked bytes (i .0) h (i .1 .0))
+same-fault bytes (UnknownMark at) (LoneByte at′) e h i = absurd (omega (arith, i, h .0))
+same-fault bytes (UnknownMark at) (UnknownMark at′) e h i = ap UnknownMark e
+same-fault bytes (UnknownMark at) (Cut at′) e h i = absurd (h .1 (i .0) (i .1 .0))
+same-fault bytes (Cut at) (LoneByte at′) e h i = absurd (lone-not-marked bytes (h .0) i (h .1 .0))
+same-fault bytes (Cut at) (UnknownMark at′) e h i = absurd (i .1 (h .0) (h .1 .0))
+same-fault bytes (Cut at) (Cut at′) e h i = ap Cut e
+
+not-both : (at at′ at″ : ℕ) (bytes bytes′ bytes″ : List ℕ) (o : Option Record) (f : ReadFault) → Answered at bytes (Ok o) at′ bytes′ → Answered at bytes (Err f) at″ bytes″ → ⊥
+not-both at at′ at″ bytes bytes′ bytes″ None f a b = end-not-refused f (subst (λ bs. Refused bs f) (a .0) (b .1))
+not-both at at′ at″ bytes bytes′ bytes″ (Some x) f a b =
+    not-refused (x .row) bytes′ f (a .1) (subst (λ bs. Refused bs f) (a .2) (b .1))
+
+same-record : (at at′ at″ : ℕ) (bytes bytes′ bytes″ : List ℕ) (o p : Option Record) → Answered at bytes (Ok o) at′ bytes′ → Answered at bytes (Ok p) at″ bytes″ → Same (Ok o) at′ bytes′ (Ok p) at″ bytes″
+same-record at at′ at″ bytes bytes′ bytes″ None None a b = (refl, a .1 ∙ sym (b .1), a .2 ∙ sym (b .2))
+same-record at at′ at″ bytes bytes′ bytes″ None (Some y) a b =
+    absurd (starts-long (y .row) bytes″ (b .1) (sym (a .0) ∙ b .2))
+same-record at at′ at″ bytes bytes′ bytes″ (Some x) None a b =
+    absurd (starts-long (x .row) bytes′ (a .1) (sym (b .0) ∙ a .2))
+same-record at at′ at″ bytes bytes′ bytes″ (Some x) (Some y) a b =
+    let p = written-same (x .row) (y .row) bytes′ bytes″ (a .1) (b .1) (sym (a .2) ∙ b .2) in
+    let o : x .offset ≡ y .offset = a .0 ∙ sym (b .0) in
+    let r = p .0 in
+    let e : x ≡ y = λ i. record { offset = o i; row = r i } in
+    (ap (λ z. Ok (Some z)) e, a .3 ∙ ap (λ s. at + length (written s)) r ∙ sym (b .3), p .1)
+
+pub answered-once : (at at′ at″ : ℕ) (bytes bytes′ bytes″ : List ℕ) (r s : Result (Option Record) ReadFault) → Answered at bytes r at′ bytes′ → Answered at bytes s at″ bytes″ → Same r at′ bytes′ s at″ bytes″
+answered-once at at′ at″ bytes bytes′ bytes″ (Ok o) (Ok p) a b = same-record at at′ at″ bytes bytes′ bytes″ o p a b
+answered-once at at′ at″ bytes bytes′ bytes″ (Ok o) (Err f) a b =
+    absurd (not-both at at′ at″ bytes bytes′ bytes″ o f a b)
+answered-once at at′ at″ bytes bytes′ bytes″ (Err f) (Ok p) a b =
+    absurd (not-both at at″ at′ bytes bytes″ bytes′ p f b a)
+answered-once at at′ at″ bytes bytes′ bytes″ (Err f) (Err g) a b =
+    (ap Err (same-fault bytes f g (a .0 ∙ sym (b .0)) (a .1) (b .1)), a .2 ∙ sym (b .2), a .3 ∙ sym (b .3))
 
 -- what one answer of the reader makes of a file that was read so far
 

@@ -90,3 +90,7 @@ Answered at bytes (Ok o) at′ bytes′ =
 -- after a refusal the reader stays
 Answered at bytes (Err fault) at′ bytes′ =
     (fault-offset fault ≡ at) × Refused bytes fault × (at′ ≡ at) × (bytes′ ≡ bytes)
+
+-- Two answers are one, and leave the reader at one place.
+abbrev pub Same : Result (Option Record) ReadFault → ℕ → List ℕ → Result (Option Record) ReadFault → ℕ → List ℕ → Type 0
+Same r at bytes s at′ bytes′ = (r ≡ s) × (at ≡ at′) × (bytes ≡ bytes′)

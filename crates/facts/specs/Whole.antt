@@ -1,6 +1,6 @@
 -- Whole files, read record by record.
 use mathlib.Core.Path.{_≡_}
-use mathlib.Core.List.{List, [], _∷_, _++_, map}
+use mathlib.Core.List.{List, _++_}
 use Prim.Native.Nat.{ℕ}
 use lib.ListN.{length}
 use Rattle.std.specs.shelf.Lists.{All}
@@ -9,11 +9,6 @@ use Rattle.facts.specs.declared.record.Record.{Record}
 use Rattle.facts.specs.declared.whole.WholeFault.{WholeFault}
 use Rattle.facts.specs.declared.whole.WholeFault.the-variants.{Unread, NoMemory}
 use Rattle.facts.specs.Format.{Fact, file, records, Refused, fault-offset}
-
--- The records xs, with their offsets, are those of facts whose file comes first in the bytes, before the rest.
-abbrev pub ReadFirst : List ℕ → List Record → List ℕ → Type 0
-ReadFirst bytes xs rest =
-    (rows : List Row) × (All Fact rows × (xs ≡ records 0 rows) × (bytes ≡ file rows ++ rest))
 
 -- The bytes are the file of some facts, and the records are those.
 abbrev pub ReadWhole : List ℕ → List Record → Type 0

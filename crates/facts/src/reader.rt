@@ -1,13 +1,17 @@
 // The reader of facts files. It borrows the bytes, and takes them apart record by record.
 ghost use mathlib.Core.Path.{_≡_};
-ghost use mathlib.Core.List.{_++_};
+ghost use mathlib.Core.List.{List, _++_};
 ghost use mathlib.Core.Bool.{true};
-ghost use Prim.Native.Nat.{_+_, _*_, _^_, _<_};
+ghost use Prim.Native.Nat.{ℕ, _+_, _*_, _^_, _<_};
 ghost use denote.Ref.{now};
 ghost use lib.ListN.{length};
 ghost use Rattle.std.specs.Options.{Cases};
+ghost use Rattle.std.specs.declared.option.Option.{Option};
+ghost use Rattle.std.specs.declared.result.Result.{Result};
 ghost use Rattle.rows.specs.Rows.{admissible, places};
-ghost use Rattle.facts.specs.Format.{two-bytes, bytes-of, codes-of, Answered};
+ghost use Rattle.facts.specs.Format.{two-bytes, bytes-of, codes-of, Answered, Same};
+ghost use Rattle.facts.specs.declared.record.Record.{Record};
+ghost use Rattle.facts.specs.declared.record.ReadFault.{ReadFault};
 use crate::mark::relation_of;
 use crate::record::ReadFault;
 use crate::record::Record;
@@ -35,7 +39,8 @@ impl<'a> Reader<'a> {
 
     // The next record, or none at the end. After a refusal the reader stays where it is.
     pub fn next_record(&mut self) -> Result<Option<Record>, ReadFault>
-        ensures { λ r. ⌜ Answered (now (self .entry) .offset) (now (now (self .entry) .left)) r (now (self .exit) .offset) (now (now (self .exit) .left)) ⌝ }
+        ensures stands { λ r. ⌜ Answered (now (self .entry) .offset) (now (now (self .entry) .left)) r (now (self .exit) .offset) (now (now (self .exit) .left)) ⌝ }
+        ensures only { λ r. ⌜ ((s : Result (Option Record) ReadFault) (at : ℕ) (bytes : List ℕ) → Answered (now (self .entry) .offset) (now (now (self .entry) .left)) s at bytes → Same r (now (self .exit) .offset) (now (now (self .exit) .left)) s at bytes) ⌝ }
     {
         let offset = self.offset;
         match self.left {
