@@ -1,0 +1,3 @@
+mod Atoms
+mod Bytes
+mod Files

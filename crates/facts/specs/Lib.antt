@@ -1,0 +1,4 @@
+pub mod Numbers
+pub mod Points
+pub mod Format
+pub mod Whole
