@@ -1,0 +1,3 @@
+// Facts put in atoms, for any five kinds of atoms.
+pub mod fact;
+pub mod puts;
