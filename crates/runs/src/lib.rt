@@ -1,0 +1,3 @@
+// Whole runs: any list of the six calls, over any table and any kinds of atoms, and the promise over it.
+pub mod play;
+pub mod script;
