@@ -1,0 +1,3 @@
+pub mod Programmed
+pub mod Compares
+pub mod Strikes
