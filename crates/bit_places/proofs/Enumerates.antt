@@ -1,5 +1,5 @@
 -- The places number the admissible rows.
-use mathlib.Core.Path.{_≡_, sym, ap}
+use mathlib.Core.Path.{sym, ap}
 use Prim.Native.Nat.{ℕ}
 use native.Mathlib.Omega.{arith}
 use Rattle.bit_places.specs.Places.{row-of}

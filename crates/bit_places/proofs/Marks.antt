@@ -1,16 +1,15 @@
 -- The rows whose bits are set: their order, membership, one bit raised, the least from a row on.
 use mathlib.Core.Path.{_≡_, refl, sym, ap, subst, _∙_}
 use mathlib.Core.List.{List, [], _∷_}
-use mathlib.Core.Bool.{Bool, true, false, cond, _&&_, _||_}
-use mathlib.Core.Logic.{_⊎_, inl, inr, ⊎-elim}
-use Prim.Native.Nat.{ℕ, zero, suc, min, _+_, _-_, _*_, _/_, _%_, _<_, _≤_}
+use mathlib.Core.Bool.{true, false}
+use mathlib.Core.Logic.{_⊎_, ⊎-elim}
+use Prim.Native.Nat.{ℕ, zero, suc, _+_, _-_, _*_, _<_, _≤_}
 use native.Mathlib.Omega.{arith}
-use native.Mathlib.Nat.{add-zero, add-suc, zero-add}
+use native.Mathlib.Nat.{add-zero, add-suc}
 use lib.ListN.{length}
 use Rattle.std.specs.shelf.Lists.{All}
-use Rattle.std.proofs.shelf.Tests.{cases-bool, both-ways, cases-lt, cases-eq, or-from, or-left}
-use Rattle.std.specs.declared.option.Option.{Option}
-use Rattle.std.specs.declared.option.Option.the-variants.{Some, None}
+use Rattle.std.proofs.shelf.Tests.{cases-bool, both-ways, cases-lt, or-left}
+use Rattle.std.specs.declared.option.Option.the-variants.{Some}
 use Rattle.rows.specs.declared.row.Row.{Row}
 use Rattle.rows.specs.Rows.{before, same, admissible, has, insert, first-from, Asc}
 use Rattle.rows.proofs.Order.{before-asym, before-not-same, same-refl}
@@ -19,7 +18,7 @@ use Rattle.rows.proofs.Scan.{first-skip, first-stop}
 use Rattle.bit_places.specs.Places.{base, place, row-of}
 use Rattle.bit_places.specs.Bit.{bit, raised}
 use Rattle.bit_places.specs.Marked.{marked}
-use Rattle.bit_places.proofs.Placed.{Fit, fit, unfit, fit-row, place-row, place-below, row-place, row-before, row-after, rows-rise}
+use Rattle.bit_places.proofs.Placed.{Fit, unfit, fit-row, row-place, row-before, row-after, rows-rise}
 use Rattle.bit_places.proofs.RaisedBits.{bit-raised-same, bit-raised-other}
 
 pub marked-set : (w : ℕ) (ws : List ℕ) (i n : ℕ) → bit ws i ≡ true → marked w ws i (suc n) ≡ row-of w i ∷ marked w ws (suc i) n

@@ -1,22 +1,17 @@
 -- A bit table's opening.
 use mathlib.Core.Path.{_≡_, refl, sym, ap, subst, _∙_}
-use mathlib.Core.List.{List, [], _∷_, map, _++_}
-use mathlib.Core.Bool.{Bool, true, false, cond, _&&_}
-use mathlib.Core.Logic.{_⊎_, inl, inr, ⊎-elim}
-use Prim.Native.Nat.{ℕ, zero, suc, _+_, _-_, _*_, _/_, _%_, _^_, _<_, _≤_}
+use mathlib.Core.List.{List, []}
+use mathlib.Core.Bool.{Bool, true, false, cond}
+use Prim.Native.Nat.{ℕ, _+_, _-_, _*_, _/_, _%_, _^_, _<_, _≤_}
 use native.Mathlib.Omega.{arith}
 use native.Mathlib.Nat.{div-eq-of-lt}
 use lib.Dec.{eqb, ltb, leb}
-use lib.ListN.{length, getD, set, replicate, drop}
-use Rattle.std.specs.Iters.{counting}
+use lib.ListN.{length, getD, replicate, drop}
 use Rattle.std.proofs.shelf.Bits.{pow-pos}
-use Rattle.std.proofs.shelf.Ways.{tells}
 use Rattle.std.proofs.shelf.Lists.{getD-append-left, getD-replicate, length-replicate}
 use Rattle.std.proofs.shelf.Counted.{fill-by-all}
-use Rattle.std.proofs.shelf.Tests.{and-parts, and-from, and-left, and-right, ltb-true, leb-true, leb-false, lt-ltb, le-leb, le-ltb, lt-leb, cases-bool}
-use Rattle.std.specs.declared.result.Result.{Result}
-use Rattle.std.specs.declared.result.Result.the-variants.{Ok, Err}
-use Rattle.rows.specs.declared.answer.Limits.{Limits}
+use Rattle.std.proofs.shelf.Tests.{and-parts, ltb-true, leb-true, le-leb, lt-leb}
+use Rattle.std.specs.declared.result.Result.the-variants.{Ok}
 use Rattle.rows.proofs.Opens.{opening-ok}
 use Rattle.bit_places.specs.Places.{size, base}
 use Rattle.bit_places.specs.Bit.{bit}

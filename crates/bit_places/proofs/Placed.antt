@@ -1,17 +1,16 @@
 -- The place of a row keeps the order of rows; the row at a place.
 use mathlib.Core.Path.{_≡_, refl, sym, ap, subst, _∙_}
-use mathlib.Core.Bool.{Bool, true, false, cond, _&&_, _||_}
+use mathlib.Core.Bool.{true, false}
 use mathlib.Core.Logic.{_⊎_, inl, inr, ⊎-elim}
-use Prim.Native.Nat.{ℕ, zero, suc, min, _+_, _-_, _*_, _/_, _%_, _<_, _≤_}
+use Prim.Native.Nat.{ℕ, zero, suc, _+_, _-_, _*_, _%_, _<_, _≤_}
 use native.Mathlib.Omega.{arith}
-use native.Mathlib.Nat.{mul-le-mul-right}
-use lib.Dec.{eqb, ltb, leb}
+use lib.Dec.{leb}
 use Rattle.std.proofs.shelf.Ways.{tells}
-use Rattle.std.proofs.shelf.Tests.{lt-ltb, le-ltb, le-leb, lt-leb, cases-bool, both-ways, cases-lt, leb-true, leb-false}
+use Rattle.std.proofs.shelf.Tests.{lt-ltb, le-ltb, cases-bool, cases-lt, leb-true, leb-false}
 use Rattle.std.proofs.shelf.Bits.{div-below, mod-below, div-add-mod'}
 use Rattle.rows.specs.declared.row.Row.{Row}
-use Rattle.rows.specs.Rows.{before, same, admissible}
-use Rattle.rows.proofs.Order.{Lower, lower, not-lower, same-is, same-from-neither}
+use Rattle.rows.specs.Rows.{before, admissible}
+use Rattle.rows.proofs.Order.{lower, not-lower, same-is, same-from-neither}
 use Rattle.bit_places.specs.Places.{second, third, size, base, digit, inner, place, relation-at, row-in, row-of}
 use Rattle.bit_places.proofs.Digits.{digit-is, digit-below, first-less, first-more, second-less, second-more}
 

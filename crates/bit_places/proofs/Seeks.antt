@@ -1,8 +1,8 @@
 -- A search for the next bit that is set, word by word.
 use mathlib.Core.Path.{_≡_, refl, sym, ap, subst, _∙_}
-use mathlib.Core.List.{List, [], _∷_}
-use mathlib.Core.Bool.{Bool, true, false, cond}
-use mathlib.Core.Logic.{_⊎_, inl, inr, ⊎-elim}
+use mathlib.Core.List.{List, []}
+use mathlib.Core.Bool.{false}
+use mathlib.Core.Logic.{_⊎_, ⊎-elim}
 use Prim.Native.Nat.{ℕ, zero, suc, _+_, _-_, _*_, _/_, _%_, _^_, _<_, _≤_}
 use native.Mathlib.Omega.{arith}
 use native.Mathlib.Nat.{add-zero, add-suc, div-one, div-eq-of-lt}
@@ -11,8 +11,7 @@ use lib.Dec.{eqb}
 use lib.ListN.{length, getD}
 use borrow.Author.Numbers.{trailing-lt}
 use Rattle.std.proofs.shelf.Bits.{shr-le, shr-shr, shr-below, pow-below, pow-pos}
-use Rattle.std.proofs.shelf.Tests.{cases-lt, cases-eq, eq-eqb, eqb-true, ne-eqb}
-use Rattle.std.specs.declared.option.Option.{Option}
+use Rattle.std.proofs.shelf.Tests.{cases-lt, cases-eq}
 use Rattle.std.specs.declared.option.Option.the-variants.{Some, None}
 use Rattle.rows.specs.declared.row.Row.{Row}
 use Rattle.rows.specs.Rows.{first-from}
@@ -21,7 +20,7 @@ use Rattle.bit_places.specs.Bit.{bit}
 use Rattle.bit_places.specs.Marked.{marked}
 use Rattle.bit_places.specs.Sought.{Sought, Low}
 use Rattle.bit_places.proofs.Marks.{marked-clear}
-use Rattle.bit_places.proofs.Tabled.{first-start, first-end, first-found, marked-end, count-set}
+use Rattle.bit_places.proofs.Tabled.{first-start, first-found, marked-end, count-set}
 
 -- the zeros below the lowest set digit, and that digit
 halves : (n j : ℕ) → n / 2 ^ suc j ≡ n / 2 / 2 ^ j

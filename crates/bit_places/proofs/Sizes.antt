@@ -1,15 +1,13 @@
 -- How large sizes and bases are at a width of at most 32.
-use mathlib.Core.Path.{_≡_, refl, sym, ap, subst, _∙_}
-use mathlib.Core.Bool.{Bool, true, false, cond}
-use mathlib.Core.Logic.{_⊎_, inl, inr, ⊎-elim}
-use Prim.Native.Nat.{ℕ, zero, suc, min, _+_, _-_, _*_, _/_, _%_, _<_, _≤_}
+use mathlib.Core.Path.{_≡_, refl, sym, ap, subst}
+use mathlib.Core.Logic.{_⊎_, ⊎-elim}
+use Prim.Native.Nat.{ℕ, zero, suc, _+_, _-_, _*_, _/_, _%_, _<_, _≤_}
 use native.Mathlib.Omega.{arith}
 use native.Mathlib.Nat.{mul-le-mul}
 use native.Mathlib.Numerals.{add-one}
 use Rattle.std.proofs.shelf.Ways.{tells}
 use Rattle.std.proofs.shelf.Tests.{cases-order}
-use Rattle.rows.specs.declared.row.Row.{Row}
-use Rattle.bit_places.specs.Places.{second, third, size, base, inner, place, relation-at, row-in, row-of}
+use Rattle.bit_places.specs.Places.{second, third, size, base, inner, relation-at, row-in, row-of}
 use Rattle.bit_places.proofs.Placed.{Fit, fit-row, lo, hi, st, t-pos, base-up, relation-low, relation-high, relation-most}
 
 module _ (w : ℕ) (h : w ≤ 32) (k : ℕ) where

@@ -1,24 +1,22 @@
 -- What a bit table's functions answer.
-use mathlib.Core.Path.{_≡_, refl, sym, ap, subst, _∙_}
-use mathlib.Core.List.{List, [], _∷_}
-use mathlib.Core.Bool.{Bool, true, false, cond, _||_}
-use mathlib.Core.Logic.{_⊎_, inl, inr, ⊎-elim}
-use Prim.Native.Nat.{ℕ, zero, suc, _+_, _-_, _*_, _/_, _%_, _<_, _≤_}
+use mathlib.Core.Path.{_≡_, refl, sym, ap, _∙_}
+use mathlib.Core.List.{List, []}
+use mathlib.Core.Bool.{Bool, true, false, cond}
+use mathlib.Core.Logic.{_⊎_, ⊎-elim}
+use Prim.Native.Nat.{ℕ, suc, _+_, _-_, _*_, _<_, _≤_}
 use native.Mathlib.Omega.{arith}
 use native.Mathlib.Nat.{zero-add}
 use native.Mathlib.Numerals.{add-one}
 use lib.Dec.{leb}
-use lib.ListN.{length, getD}
+use lib.ListN.{length}
 use Rattle.std.proofs.shelf.Counted.{getD-map-counting}
-use Rattle.std.proofs.shelf.Tests.{cases-bool, cases-lt, or-from, lt-leb}
-use Rattle.std.specs.declared.option.Option.{Option}
+use Rattle.std.proofs.shelf.Tests.{cases-lt, or-from, lt-leb}
 use Rattle.std.specs.declared.option.Option.the-variants.{Some, None}
 use Rattle.rows.specs.declared.row.Row.{Row}
-use Rattle.rows.specs.Rows.{admissible, has, insert, first-from, of-relation}
-use Rattle.rows.specs.Tables.{full, add-answer, rows-after}
+use Rattle.rows.specs.Rows.{admissible, has, insert, first-from}
+use Rattle.rows.specs.Tables.{full, add-answer}
 use Rattle.rows.proofs.Adds as adds
 use Rattle.rows.proofs.Adds.{full-total}
-use Rattle.std.specs.declared.result.Result.{Result}
 use Rattle.std.specs.declared.result.Result.the-variants.{Ok, Err}
 use Rattle.rows.specs.declared.answer.Outcome.the-variants.{Held, Added}
 use Rattle.rows.specs.declared.answer.TableFault.the-variants.{NotAdmissible, Full}
@@ -26,9 +24,9 @@ use Rattle.bit_places.specs.Places.{size, base, place, row-of}
 use Rattle.bit_places.specs.Bit.{bit, raised}
 use Rattle.bit_places.specs.Marked.{marked}
 use Rattle.bit_places.specs.Opened.{bit-limits, each-limit}
-use Rattle.bit_places.proofs.Placed.{Fit, fit, unfit, place-below, fit-row, place-row}
+use Rattle.bit_places.proofs.Placed.{Fit, fit, place-below, fit-row, place-row}
 use Rattle.rows.proofs.Sets.{length-insert}
-use Rattle.bit_places.proofs.Marks.{asc-marked, sound-marked, few-marked, has-unfit, has-marked, insert-marked, marked-set, marked-clear, first-jump, first-set, first-clear}
+use Rattle.bit_places.proofs.Marks.{asc-marked, sound-marked, has-unfit, has-marked, insert-marked, marked-set, marked-clear, first-jump, first-set, first-clear}
 use Rattle.bit_places.proofs.Crowds.{room-all, room-relation}
 
 -- none past the last place

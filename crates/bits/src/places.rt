@@ -3,9 +3,17 @@ ghost use mathlib.Core.Path.{_≡_};
 ghost use Prim.Native.Nat.{_^_, _<_, _≤_};
 ghost use Rattle.bit_places.specs.Places.{second, third, size, base, digit, place, relation-at, row-of};
 ghost use Rattle.bit_places.specs.Kinds.{past, threes};
+use rows::relation::LOAN_ISSUED_AT;
+use rows::relation::ORIGIN_CONTAINS_LOAN_ON_ENTRY;
 use rows::relation::RELATIONS;
+use rows::relation::SUBSET;
+use rows::relation::SUBSET_BASE;
+use rows::relation::SUBSET_ERRORS;
+use rows::relation::UNIVERSAL_REGION;
 use rows::relation::places;
 use rows::row::Row;
+
+const LAST: u32 = RELATIONS - 1;
 
 // How many second codes the rows of a relation have: 1 where that place is unused.
 fn second(width: usize, relation: u32) -> usize
@@ -29,7 +37,7 @@ pub fn size(width: usize, relation: u32) -> usize
     width * (second(width, relation) * third(width, relation))
 }
 
-// 1 where k is below the relation, else 0.
+// 1 where relation k is below the other, else 0.
 fn past(k: u32, relation: u32) -> usize
     ensures { λ r. ⌜ r ≡ past k relation ⌝ }
 {
@@ -40,20 +48,21 @@ fn past(k: u32, relation: u32) -> usize
 fn threes(relation: u32) -> usize
     ensures { λ r. ⌜ r ≡ threes relation ⌝ }
 {
-    past(0, relation)
-        + past(4, relation)
-        + past(32, relation)
-        + past(33, relation)
-        + past(36, relation)
+    past(LOAN_ISSUED_AT, relation)
+        + past(SUBSET_BASE, relation)
+        + past(SUBSET, relation)
+        + past(ORIGIN_CONTAINS_LOAN_ON_ENTRY, relation)
+        + past(SUBSET_ERRORS, relation)
 }
 
-// How many rows the relations below one have.
+// How many rows the relations below one have: those with one place have a row for each code, those with two a row for
+// each pair of codes, and those with three a row for each triple.
 pub fn base(width: usize, relation: u32) -> usize
     requires narrow { ⌜ width ≤ 32 ⌝ }
     requires known { ⌜ relation ≤ 40 ⌝ }
     ensures { λ r. ⌜ r ≡ base width relation ⌝ }
 {
-    let ones = past(1, relation);
+    let ones = past(UNIVERSAL_REGION, relation);
     let threes = threes(relation);
     let twos = relation as usize - ones - threes;
     width * (ones + width * (twos + width * threes))
@@ -85,7 +94,7 @@ pub fn place(width: usize, r: &Row) -> usize
     base(width, r.relation) + digit(width, s * t, r.a as usize, low)
 }
 
-// The relation of the row with i admissible rows before it.
+// The relation of the row with i admissible rows before it. `at` rows lie in the relations below k.
 fn relation_at(width: usize, i: usize) -> u32
     requires narrow { ⌜ width ≤ 32 ⌝ }
     requires within { ⌜ i < base width 40 ⌝ }
@@ -93,7 +102,7 @@ fn relation_at(width: usize, i: usize) -> u32
 {
     let mut k: u32 = 0;
     let mut at: usize = 0;
-    while k < 39 {
+    while k < LAST {
         let more = size(width, k);
         if i - at < more {
             return k;
@@ -101,7 +110,7 @@ fn relation_at(width: usize, i: usize) -> u32
         at += more;
         k += 1;
     }
-    39
+    LAST
 }
 
 // The row with i admissible rows before it.

@@ -3,8 +3,7 @@ use mathlib.Core.Path.{_≡_, refl}
 use mathlib.Core.Bool.{Bool, true, false}
 use Prim.Native.Nat.{ℕ}
 use native.Mathlib.Omega.{arith}
-use Rattle.std.specs.declared.result.Result.the-variants.{Ok, Err}
-use Rattle.rows.specs.declared.answer.OpenFault.the-variants.{Width, Words}
+use Rattle.std.specs.declared.result.Result.the-variants.{Ok}
 use Rattle.rows.specs.Openings.{opening}
 
 pub opening-ok : (width words : Bool) → Ok tt ≡ opening width words → (width ≡ true) × (words ≡ true)

@@ -35,7 +35,16 @@ pub fn add_under<T: Table>(below: T, own: Maxima, batch: &[Row]) -> T
     quota.into_below()
 }
 
-// The same on a table that is lent.
+// The same under two quotas, one on the other; so a pile of any height.
+pub fn add_under_both<T: Table>(below: T, lower: Maxima, upper: Maxima, batch: &[Row]) -> T
+    ensures { λ t. ⌜ Filled (T·Table .rows) (T·Table .bounds) (T·Table .grew) (capped (upper .most) (capped (lower .most) (T·Table .bounds below))) below (now (batch .entry)) t ⌝ }
+{
+    let quota = Quota::new(below, lower);
+    let quota = add_under(quota, upper, batch);
+    quota.into_below()
+}
+
+// A quota on a table that is lent.
 pub fn add_under_lent<T: Table>(below: &mut T, own: Maxima, batch: &[Row])
     ensures { λ _. ⌜ Filled (T·Table .rows) (T·Table .bounds) (T·Table .grew) (capped (own .most) (T·Table .bounds (now (below .entry)))) (now (below .entry)) (now (batch .entry)) (now (below .exit)) ⌝ }
 {

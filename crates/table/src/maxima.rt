@@ -1,7 +1,6 @@
 // Forty maxima of the rows held, one for each relation.
 ghost use mathlib.Core.Path.{_≡_};
-ghost use mathlib.Core.List.{List};
-ghost use Prim.Native.Nat.{ℕ, _<_};
+ghost use Prim.Native.Nat.{_<_};
 ghost use lib.ListN.{length, getD, set, replicate};
 ghost use Rattle.rows.specs.Lesser.{lesser};
 use rows::relation::RELATIONS;

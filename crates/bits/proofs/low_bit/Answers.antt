@@ -1,6 +1,5 @@
 use borrow.Author.Needs.{needs}
 use native.Mathlib.Omega.{arith}
-use Prim.Native.Nat.{_/_, _^_, _<_}
 use Rattle.bit_places.proofs.Seeks.{low-none, low-some, low-in}
 use Rattle.bits.proofs.low_bit.Needs as need
 

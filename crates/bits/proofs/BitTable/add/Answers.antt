@@ -1,10 +1,7 @@
 use mathlib.Core.Path.{_≡_, refl, ap, sym, _∙_}
-use mathlib.Core.Bool.{true, false}
-use Prim.Native.Nat.{_<_, _*_}
+use mathlib.Core.Bool.{false}
 use native.Mathlib.Omega.{arith}
-use lib.ListN.{length}
 use Rattle.rows.specs.Tables.{rows-after}
-use Rattle.rows.specs.Rows.{insert}
 use Rattle.bit_places.specs.Places.{place}
 use Rattle.bit_places.specs.Bit.{bit, raised}
 use Rattle.bit_places.specs.Marked.{marked}

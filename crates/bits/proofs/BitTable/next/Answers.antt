@@ -1,6 +1,5 @@
-use mathlib.Core.Path.{_≡_, refl, sym, ap, subst, _∙_}
-use Prim.Native.Nat.{ℕ}
-use Rattle.std.specs.declared.option.Option.the-variants.{Some, None}
+use mathlib.Core.Path.{refl, sym, ap, subst, _∙_}
+use Rattle.std.specs.declared.option.Option.the-variants.{Some}
 use Rattle.bit_places.specs.Places.{place}
 use Rattle.bit_places.specs.Sought.{Sought}
 use Rattle.bit_places.proofs.Lawfuls.{within}

@@ -1,7 +1,6 @@
-use borrow.Author.Needs.{needs}
-use mathlib.Core.Path.{_≡_, refl, sym, ap, _∙_}
+use mathlib.Core.Path.{_≡_, refl, ap, _∙_}
 use mathlib.Core.Bool.{true, false}
-use Prim.Native.Nat.{_+_, _*_, _/_, _<_, _≤_}
+use Prim.Native.Nat.{_<_}
 use native.Mathlib.Omega.{arith}
 use mathlib.Core.List.{[]}
 use lib.ListN.{length, set}
@@ -10,7 +9,7 @@ use Rattle.rows.specs.Openings.{if-open}
 use Rattle.bit_places.specs.Places.{base}
 use Rattle.bit_places.specs.Marked.{marked}
 use Rattle.bit_places.specs.Opened.{cleared, words-for}
-use Rattle.bit_places.proofs.Openings.{Fitting, opened, cleared-rows, no-rows}
+use Rattle.bit_places.proofs.Openings.{opened, cleared-rows, no-rows}
 use Rattle.bits.proofs.Bits.make.Needs as need
 use Rattle.bits.proofs.Bits.make.Needs.{After-base, at·returns}
 

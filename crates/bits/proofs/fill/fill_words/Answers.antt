@@ -1,4 +1,4 @@
-use mathlib.Core.Path.{_≡_, sym, _∙_}
+use mathlib.Core.Path.{sym, _∙_}
 use denote.Ref.{now, name}
 use Rattle.rows.specs.Adding.{taken}
 use Rattle.rows.specs.Quotas.{capped}

@@ -1,8 +1,8 @@
 use borrow.Author.Needs.{needs}
-use mathlib.Core.Path.{_≡_, refl, sym, ap, _∙_}
+use mathlib.Core.Path.{_≡_, refl, sym, _∙_}
 use native.Mathlib.Omega.{arith}
-use Prim.Native.Nat.{_+_, _*_, _≤_}
-use Rattle.bit_places.specs.Places.{second, third, size, base, digit, inner, place}
+use Prim.Native.Nat.{_*_, _≤_}
+use Rattle.bit_places.specs.Places.{second, third, base, digit, inner}
 use Rattle.bit_places.proofs.Placed.{place-open, place-past}
 use Rattle.bit_places.proofs.Sizes.{second-most, third-most, pair-most, size-most, base-most, inner-most}
 use Rattle.bits.proofs.places.place.Needs as need

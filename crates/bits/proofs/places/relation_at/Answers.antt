@@ -1,9 +1,7 @@
-use borrow.Author.Needs.{needs}
 use mathlib.Core.Path.{_≡_, refl, sym, ap, _∙_}
 use native.Mathlib.Omega.{arith}
-use Prim.Native.Nat.{_+_, _*_, _≤_, _<_}
-use Rattle.bit_places.specs.Places.{size, base, relation-at}
-use Rattle.bit_places.proofs.Sizes.{base-none, base-suc, base-most, size-most, relation-is}
+use Rattle.bit_places.specs.Places.{base}
+use Rattle.bit_places.proofs.Sizes.{base-none, base-suc, relation-is}
 use Rattle.bits.proofs.places.relation_at.Needs as need
 
 pub loop-k-holds : need.loop-k-holds

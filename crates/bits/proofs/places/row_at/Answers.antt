@@ -1,8 +1,6 @@
 use borrow.Author.Needs.{needs}
 use native.Mathlib.Omega.{arith}
-use Prim.Native.Nat.{_*_, _≤_}
-use mathlib.Core.Path.{_≡_}
-use Rattle.bit_places.specs.Places.{second, third, base}
+use Rattle.bit_places.specs.Places.{second, base}
 use Rattle.bit_places.proofs.Sizes.{Made, made}
 use Rattle.bits.proofs.places.row_at.Needs as need
 use mathlib.Core.Path.{refl}

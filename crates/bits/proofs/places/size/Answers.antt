@@ -1,8 +1,8 @@
 use borrow.Author.Needs.{needs}
-use mathlib.Core.Path.{_≡_, refl, sym, ap, _∙_}
+use mathlib.Core.Path.{_≡_, refl}
 use native.Mathlib.Omega.{arith}
 use Prim.Native.Nat.{_*_, _≤_}
-use Rattle.bit_places.proofs.Sizes.{second-most, third-most, pair-most, size-most}
+use Rattle.bit_places.proofs.Sizes.{pair-most, size-most}
 use Rattle.bit_places.specs.Places.{second, third, size}
 use Rattle.bits.proofs.places.size.Needs as need
 

@@ -1,10 +1,10 @@
 use mathlib.Core.Path.{_≡_, refl, ap, sym, _∙_}
 use mathlib.Core.Bool.{true}
-use Prim.Native.Nat.{_<_, _≤_}
+use Prim.Native.Nat.{_<_}
 use native.Mathlib.Omega.{arith}
 use borrow.Author.Needs.{needs}
 use lib.ListN.{length}
-use Rattle.rows.specs.Rows.{of-relation, rest, admissible}
+use Rattle.rows.specs.Rows.{of-relation, admissible}
 use Rattle.rows.proofs.Scan.{of-start, of-done, rest-none, first-above, first-held, stepped, length-of}
 use Rattle.rows.proofs.Sets.{all-has}
 use Rattle.rows.proofs.Order.{not-before-relation}

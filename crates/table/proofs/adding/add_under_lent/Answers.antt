@@ -1,4 +1,4 @@
-use mathlib.Core.Path.{_≡_, sym, subst, _∙_}
+use mathlib.Core.Path.{_≡_, sym, subst}
 use denote.Ref.{RefT, now, name}
 use Rattle.rows.specs.declared.row.Row.{Row}
 use Rattle.rows.specs.Adding.{Filled, taken}
