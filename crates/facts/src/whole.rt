@@ -11,7 +11,6 @@ ghost use Rattle.facts.specs.Whole.{ReadWhole, Stopped};
 use crate::reader::Reader;
 use crate::record::ReadFault;
 use crate::record::Record;
-use std::alloc::AllocError;
 use std::alloc::Global;
 use std::alloc::Refused;
 
@@ -28,14 +27,6 @@ pub impl From<ReadFault> for WholeFault as WholeFaultFromRead {
 
     fn from(fault: ReadFault) -> WholeFault {
         WholeFault::Unread(fault)
-    }
-}
-
-pub impl From<AllocError> for WholeFault as WholeFaultFromAlloc {
-    ghost converts = { λ _ r. r ≡ NoMemory };
-
-    fn from(_e: AllocError) -> WholeFault {
-        WholeFault::NoMemory
     }
 }
 

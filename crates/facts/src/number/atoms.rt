@@ -30,7 +30,7 @@ pub impl Atom for Number as NumberAtom {
     ghost atom = { number-of };
 
     fn code(self) -> u32 {
-        self.value
+        Number::value(self)
     }
 
     fn from_code(code: u32) -> Option<Number> {
