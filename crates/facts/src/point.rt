@@ -1,5 +1,5 @@
 // Program points: a statement of a block, and the half of it before or after its effect.
-ghost use Prim.Native.Nat.{_<_, _≤_};
+ghost use Prim.Native.Nat.{_≤_};
 
 pub mod atoms;
 
