@@ -1,16 +1,15 @@
 -- Bytes taken apart: two at the front, the codes of a row, a whole record.
-use mathlib.Core.Path.{_≡_, refl, sym, ap, _∙_}
-use mathlib.Core.List.{List, [], _∷_, _++_, append-assoc}
+use mathlib.Core.Path.{_≡_, refl, sym, ap}
+use mathlib.Core.List.{List, [], _∷_, _++_}
 use mathlib.Core.Bool.{true}
 use Prim.Native.Nat.{ℕ, suc, _+_, _-_, _*_, _/_, _%_, _≤_, _<_}
 use native.Mathlib.Omega.{arith}
-use lib.ListN.{length, getD, take, drop, length-append}
+use lib.ListN.{length, getD, take, drop}
 use lib.Seq.{take-all}
 use Rattle.std.proofs.shelf.Ways.{tells}
 use Rattle.rows.specs.Rows.{admissible, places}
-use Rattle.rows.specs.declared.row.Row.{Row}
 use Rattle.rows.specs.Relations.{row1, row2, row3}
-use Rattle.facts.specs.Format.{two-bytes, bytes-of, codes-of, mark, written}
+use Rattle.facts.specs.Format.{two-bytes, bytes-of, codes-of, mark}
 
 pub none-left : (bs : List ℕ) → length bs < 1 → bs ≡ []
 none-left [] h = refl

@@ -1,15 +1,15 @@
 -- A file read record by record: what has been read, and that it can be read in one way only.
 use mathlib.Core.Path.{_≡_, refl, sym, ap, subst, _∙_}
 use mathlib.Core.List.{List, [], _∷_, _++_, append-assoc, append-nil}
-use mathlib.Core.Logic.{_⊎_, inl, inr, ⊎-elim}
-use mathlib.Core.Bool.{Bool, true, false, cond, _&&_}
+use mathlib.Core.Logic.{_⊎_, ⊎-elim}
+use mathlib.Core.Bool.{Bool, true, cond, _&&_}
 use Prim.Native.Nat.{ℕ, zero, suc, _+_, _-_, _*_, _/_, _%_, _≤_, _<_}
 use native.Mathlib.Nat.{add-assoc, eq-or-lt-of-le, le-of-suc-le-suc, not-suc-le-zero}
 use native.Mathlib.Omega.{arith}
 use lib.Dec.{eqb}
 use borrow.Author.Tests.{eqb-true}
 use Rattle.std.proofs.shelf.Tests.{and-parts}
-use lib.ListN.{length, getD, take, drop, length-append}
+use lib.ListN.{length, getD, take, length-append}
 use Rattle.std.specs.shelf.Lists.{All}
 use Rattle.std.specs.declared.option.Option.{Option}
 use Rattle.std.specs.declared.option.Option.the-variants.{Some, None}
@@ -25,7 +25,7 @@ use Rattle.facts.specs.declared.record.ReadFault.{ReadFault}
 use Rattle.facts.specs.declared.record.ReadFault.the-variants.{LoneByte, UnknownMark, Cut}
 use Rattle.facts.specs.Format.{marks, mark, bytes-of, codes-of, written, Fact, file, records, Marked, Refused, fault-offset, Answered, Same}
 use Rattle.facts.specs.declared.whole.WholeFault.the-variants.{Unread}
-use Rattle.facts.specs.Whole.{ReadWhole, Stopped}
+use Rattle.facts.specs.Whole.{ReadWhole, CountedWhole, Stopped}
 
 -- The records xs are those of facts, whose file stood before the offset; the rest is still to come.
 pub record Before (bytes : List ℕ) (xs : List Record) (at : ℕ) (rest : List ℕ) : Type 0 where
@@ -300,3 +300,34 @@ stopped bytes xs at at′ left left′ fault b a = (b .rows, (left, (b .facts, b
 pub stopped-not-file : (bytes : List ℕ) (fault : ReadFault) → Stopped bytes (Unread fault) → (rs : List Row) → All Fact rs → bytes ≡ file rs → ⊥
 stopped-not-file bytes fault s rs f e =
     file-not-stopped rs (s .0) (s .1 .0) fault f (s .1 .1 .0) (sym e ∙ s .1 .1 .1) (s .1 .1 .3)
+
+-- the same, where the records are only counted
+
+pub record Counted (bytes : List ℕ) (n at : ℕ) (rest : List ℕ) : Type 0 where
+  pub records : List Record
+  pub before : Before bytes records at rest
+  pub many : n ≡ length records
+  pub fewer : n ≤ at
+
+records-many : (n : ℕ) (rs : List Row) → length (records n rs) ≡ length rs
+records-many n [] = refl
+records-many n (r ∷ rs) = ap suc (records-many (n + length (written r)) rs)
+
+pub one-counted : (bytes : List ℕ) (n at at′ : ℕ) (left left′ : List ℕ) (o : Option Record) (x : Record) → Counted bytes n at left → Answered at left (Ok o) at′ left′ → o ≡ Some x → Counted bytes (n + 1) at′ left′
+one-counted bytes n at at′ left left′ o x k a is =
+    let h : Answered at left (Ok (Some x)) at′ left′ = subst (λ p. Answered at left (Ok p) at′ left′) is a in
+    record {
+      records = k .records ++ x ∷ [];
+      before =
+          one-more bytes (k .records) (k .records ++ x ∷ []) at at′ left left′ o x (k .before) a is refl;
+      many = omega (arith, k .many, length-append (k .records) (x ∷ []));
+      fewer = omega (arith, k .fewer, h .3, written-long (x .row) (h .1));
+    }
+
+pub counted-whole : (bytes : List ℕ) (n at at′ : ℕ) (left left′ : List ℕ) (o : Option Record) → Counted bytes n at left → Answered at left (Ok o) at′ left′ → o ≡ None → CountedWhole bytes n
+counted-whole bytes n at at′ left left′ o k a is =
+    let w = read-whole bytes (k .records) at at′ left left′ o (k .before) a is in
+    (w .0, (w .1 .0, k .many ∙ ap length (w .1 .1) ∙ records-many 0 (w .0), w .1 .2))
+
+pub counted-exact : (bytes : List ℕ) (n : ℕ) → CountedWhole bytes n → (rs : List Row) → All Fact rs → bytes ≡ file rs → n ≡ length rs
+counted-exact bytes n w rs f e = w .1 .1 ∙ ap length (file-same (w .0) rs (w .1 .0) f (sym (w .1 .2) ∙ e))

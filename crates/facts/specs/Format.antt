@@ -5,7 +5,6 @@ use mathlib.Core.Bool.{true}
 use Prim.Native.Nat.{ℕ, _+_, _*_, _/_, _%_, _≤_, _<_}
 use lib.Chars.{codes}
 use lib.ListN.{length, getD, take}
-use Rattle.std.specs.shelf.Lists.{All}
 use Rattle.std.specs.declared.option.Option.{Option}
 use Rattle.std.specs.declared.option.Option.the-variants.{Some, None}
 use Rattle.std.specs.declared.result.Result.{Result}
@@ -16,7 +15,7 @@ use Rattle.facts.specs.declared.record.Record.{Record}
 use Rattle.facts.specs.declared.record.ReadFault.{ReadFault}
 use Rattle.facts.specs.declared.record.ReadFault.the-variants.{LoneByte, UnknownMark, Cut}
 
--- The marks of relations 0 to 17, two letters each.
+-- The marks of relations 0 to 17, two letters each, six relations to a line.
 abbrev pub marks : List (List ℕ)
 marks =
     codes "LI" ∷ codes "UR" ∷ codes "CE" ∷ codes "LK" ∷ codes "SB" ∷ codes "LV"

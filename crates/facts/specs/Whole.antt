@@ -14,6 +14,10 @@ use Rattle.facts.specs.Format.{Fact, file, records, Refused, fault-offset}
 abbrev pub ReadWhole : List ℕ → List Record → Type 0
 ReadWhole bytes xs = (rows : List Row) × (All Fact rows × (xs ≡ records 0 rows) × (bytes ≡ file rows))
 
+-- The bytes are the file of so many facts.
+abbrev pub CountedWhole : List ℕ → ℕ → Type 0
+CountedWhole bytes n = (rows : List Row) × (All Fact rows × (n ≡ length rows) × (bytes ≡ file rows))
+
 -- The file of some facts comes first in the bytes, and what follows it begins with no record; or memory ran out.
 abbrev pub Stopped : List ℕ → WholeFault → Type 0
 Stopped bytes (Unread fault) =

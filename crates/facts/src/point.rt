@@ -1,10 +1,10 @@
 // Program points: a statement of a block, and the half of it before or after its effect.
-ghost use Prim.Native.Nat.{_<_, _≤_};
+ghost use Prim.Native.Nat.{_≤_};
 
 pub mod atoms;
 
 // Every point keeps these ranges, so its number is below 65,535 with no test.
-#[derive(Clone, Copy)]
+#[derive(Clone, Copy, PartialEq, Eq, Debug)]
 pub struct Point {
     block: u32,
     statement: u32,

@@ -11,7 +11,7 @@ pub struct Record {
 }
 
 // Why a reader cannot go on; the offset is that of the mark.
-#[derive(Clone, Copy)]
+#[derive(Clone, Copy, PartialEq, Eq, Debug)]
 pub enum ReadFault {
     // One byte is left, and a mark has two.
     LoneByte { offset: usize },

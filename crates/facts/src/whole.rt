@@ -1,17 +1,18 @@
 // A whole facts file at once.
 ghost use mathlib.Core.Path.{_≡_};
 ghost use mathlib.Core.List.{List};
+ghost use lib.ListN.{length};
 ghost use Rattle.std.specs.Of.Vec.{vec-items};
 ghost use Rattle.std.specs.Results.{Cases};
+ghost use Rattle.std.specs.declared.result.Result.the-variants.{Ok};
 ghost use Rattle.std.specs.shelf.Lists.{All};
 ghost use Rattle.rows.specs.declared.row.Row.{Row};
 ghost use Rattle.facts.specs.declared.whole.WholeFault.the-variants.{Unread, NoMemory};
 ghost use Rattle.facts.specs.Format.{Fact, file, records};
-ghost use Rattle.facts.specs.Whole.{ReadWhole, Stopped};
+ghost use Rattle.facts.specs.Whole.{ReadWhole, CountedWhole, Stopped};
 use crate::reader::Reader;
 use crate::record::ReadFault;
 use crate::record::Record;
-use std::alloc::AllocError;
 use std::alloc::Global;
 use std::alloc::Refused;
 
@@ -28,14 +29,6 @@ pub impl From<ReadFault> for WholeFault as WholeFaultFromRead {
 
     fn from(fault: ReadFault) -> WholeFault {
         WholeFault::Unread(fault)
-    }
-}
-
-pub impl From<AllocError> for WholeFault as WholeFaultFromAlloc {
-    ghost converts = { λ _ r. r ≡ NoMemory };
-
-    fn from(_e: AllocError) -> WholeFault {
-        WholeFault::NoMemory
     }
 }
 
@@ -59,4 +52,17 @@ pub fn read_all(heap: Global, bytes: &[u8]) -> Result<Vec<Record>, WholeFault>
         found.push(record)?;
     }
     Ok(found)
+}
+
+// How many records a file has. It allocates nothing, so it refuses only what the reader refuses.
+pub fn count_records(bytes: &[u8]) -> Result<usize, ReadFault>
+    ensures stands { λ r. ⌜ Cases r (λ n. CountedWhole (now (bytes .entry)) n) (λ fault. Stopped (now (bytes .entry)) (Unread fault)) ⌝ }
+    ensures exact { λ r. ⌜ ((rows : List Row) → All Fact rows → now (bytes .entry) ≡ file rows → r ≡ Ok (length rows)) ⌝ }
+{
+    let mut reader = Reader::new(bytes);
+    let mut count = 0;
+    while let Some(_) = reader.next_record()? {
+        count += 1;
+    }
+    Ok(count)
 }

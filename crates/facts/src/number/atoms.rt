@@ -5,12 +5,15 @@ use crate::atom::Atom;
 use crate::atom::FactTypes;
 use crate::number::Number;
 
+// Numbers from this one on are no atoms.
+const LIMIT: u32 = 65535;
+
 impl Number {
     // None above 65,534.
     pub fn new(value: u32) -> Option<Number>
         ensures { λ r. ⌜ r ≡ number-of value ⌝ }
     {
-        if value < 65535 {
+        if value < LIMIT {
             Some(Number { value })
         } else {
             None
@@ -30,7 +33,7 @@ pub impl Atom for Number as NumberAtom {
     ghost atom = { number-of };
 
     fn code(self) -> u32 {
-        self.value
+        Number::value(self)
     }
 
     fn from_code(code: u32) -> Option<Number> {

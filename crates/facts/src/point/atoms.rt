@@ -48,7 +48,12 @@ pub impl Atom for Point as PointAtom {
     ghost atom = { point-of };
 
     fn code(self) -> u32 {
-        self.block * 64 + self.statement * 2 + self.half
+        let Point {
+            block,
+            statement,
+            half,
+        } = self;
+        block * 64 + statement * 2 + half
     }
 
     fn from_code(code: u32) -> Option<Point> {

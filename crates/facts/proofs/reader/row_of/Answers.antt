@@ -1,5 +1,5 @@
 use mathlib.Core.Path.{_≡_, refl, sym, ap, _∙_}
-use mathlib.Core.List.{_∷_, _++_, []}
+use mathlib.Core.List.{_++_}
 use Rattle.rows.specs.Rows.{places}
 use Rattle.facts.specs.Format.{two-bytes}
 use Rattle.facts.proofs.Bytes.{one-admissible, two-admissible, three-admissible, one-code, two-codes, three-codes, three-left}

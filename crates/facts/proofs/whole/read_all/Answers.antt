@@ -1,5 +1,3 @@
-use mathlib.Core.Path.{_≡_}
-use Rattle.std.specs.Of.Vec.{vec-items}
 use Rattle.std.proofs.shelf.Results.{err-from-errBy}
 use Rattle.facts.proofs.Files.{one-more, read-whole, read-exact, stopped, stopped-not-file}
 use Rattle.facts.proofs.whole.read_all.Needs as need

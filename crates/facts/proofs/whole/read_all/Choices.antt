@@ -1,7 +1,5 @@
-use mathlib.Core.Path.{_≡_}
 use lib.ListN.{length}
 use Rattle.std.specs.Of.Vec.{vec-items}
-use Rattle.facts.specs.Format.{file}
 use Rattle.facts.proofs.Files.{Before}
 use Rattle.facts.proofs.whole.read_all.Given as given
 

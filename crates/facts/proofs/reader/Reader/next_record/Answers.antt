@@ -12,7 +12,7 @@ use Rattle.rows.specs.Rows.{places}
 use Rattle.facts.specs.declared.record.Record.{Record}
 use Rattle.facts.specs.declared.record.ReadFault.{ReadFault}
 use Rattle.facts.specs.declared.record.ReadFault.the-variants.{LoneByte, UnknownMark, Cut}
-use Rattle.facts.specs.Format.{mark, written, bytes-of, codes-of, Refused, Answered}
+use Rattle.facts.specs.Format.{mark, written, bytes-of, codes-of, Answered}
 use Rattle.facts.proofs.Bytes.{none-left, front-two, mark-two}
 use Rattle.facts.proofs.Files.{answered-once}
 use Rattle.facts.proofs.reader.Reader.next_record.Needs as need

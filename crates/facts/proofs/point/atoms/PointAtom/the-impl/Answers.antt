@@ -1,7 +1,6 @@
 use mathlib.Core.Path.{_≡_}
 use Prim.Native.Nat.{_+_, _*_, _/_, _%_}
 use native.Mathlib.Omega.{arith}
-use Rattle.facts.specs.Points.{point-number}
 use Rattle.facts.proofs.Atoms.{point-made}
 use Rattle.facts.proofs.point.atoms.PointAtom.the-impl.Needs as need
 
