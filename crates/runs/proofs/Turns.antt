@@ -1,9 +1,9 @@
 -- The player's states as phases, and one step of a script.
 use mathlib.Core.Path.{_≡_, refl, sym, ap, subst, _∙_}
 use mathlib.Core.List.{List, [], _∷_, _++_}
-use Prim.Native.Nat.{ℕ, zero, suc, _≤_, _<_}
+use Prim.Native.Nat.{ℕ, zero, suc, _+_, _≤_, _<_}
 use native.Mathlib.Omega.{arith}
-use lib.ListN.{length, getD, set}
+use lib.ListN.{length, getD, set, take}
 use Rattle.std.proofs.shelf.Lists.{getD-past, set-past}
 use Rattle.std.specs.declared.result.Result.the-variants.{Ok, Err}
 use Rattle.rows.specs.declared.row.Row.{Row}
@@ -14,11 +14,12 @@ use Rattle.analysis.specs.declared.state.Filling.{Filling}
 use Rattle.analysis.specs.Calls.{begun}
 use Rattle.runs.specs.declared.script.Call.{Call}
 use Rattle.runs.specs.declared.script.Call.the-variants as call
+use Rattle.runs.specs.declared.script.Step.{Step}
 use Rattle.runs.specs.declared.script.Event.{Event}
 use Rattle.runs.specs.declared.script.Event.the-variants.{NotMade, Began}
 use Rattle.runs.specs.declared.script.State.{State}
 use Rattle.runs.specs.declared.script.State.the-variants as state
-use Rattle.runs.specs.Traces.{Deed, deed, Order, Phase, phase, phases, at, Barred, OnRun, Act, Turn}
+use Rattle.runs.specs.Traces.{Deed, deed, Order, orders, Phase, phase, phases, at, Barred, OnRun, Act, Turn, Trace}
 
 pub phases-push : (ss : List State) (s : State) → phases (ss ++ s ∷ []) ≡ phases ss ++ phase s ∷ []
 phases-push [] s = refl
@@ -94,3 +95,21 @@ module _ {S : Type 0} (rows : S → List Row) (bounds : S → Limits) (grew : S 
   goes-on ss ss′ t u i d e s s′ is set-is a =
       subst (λ (ps : List Phase). Turn rows bounds grew (phases ss) t (record { run = i; deed = d }) e ps u) (sym (ap phases set-is ∙ phases-set ss i s′))
       (Turn.acts i d (phase s′) (subst (λ (q : Phase). Act rows bounds grew q t d e (phase s′) u) (ap phase is ∙ sym (phases-at ss i)) a))
+
+-- A script with one step more.
+module _ {F O L P V H : Type 0} (o : O → ℕ) (l : L → ℕ) (p : P → ℕ) (v : V → ℕ) (h : H → ℕ) where
+  abbrev pub order : Step F O L P V H → Order
+  order s = record { run = s .run; deed = deed o l p v h (s .call) }
+
+  pub orders-more : (i : ℕ) (ss : List (Step F O L P V H)) (s : Step F O L P V H) → i < length ss → s ≡ getD ss i s
+      → orders o l p v h (take (i + 1) ss) ≡ orders o l p v h (take i ss) ++ order s ∷ []
+  orders-more i [] s lt is = absurd (omega arith)
+  orders-more zero (x ∷ ss) s lt is = ap (λ (y : Step F O L P V H). order y ∷ []) (sym is)
+  orders-more (suc i) (x ∷ ss) s lt is =
+      let e : suc i + 1 ≡ suc (i + 1) = omega arith in
+      ap (λ (n : ℕ). orders o l p v h (take n (x ∷ ss))) e ∙ ap (λ os. order x ∷ os) (orders-more i ss s (omega arith) is)
+
+pub trace-more : {S : Type 0} (rows : S → List Row) (bounds : S → Limits) (grew : S → Row → S → Type 0) (os os′ : List Order) (es es′ : List Event) (ps qs : List Phase) (s t u : S) (o : Order) (e : Event)
+    → os′ ≡ os ++ o ∷ [] → es′ ≡ es ++ e ∷ [] → Trace rows bounds grew os es ps s t → Turn rows bounds grew ps t o e qs u → Trace rows bounds grew os′ es′ qs s u
+trace-more rows bounds grew os os′ es es′ ps qs s t u o e a b tr tu =
+    subst (λ (xs : List Order). Trace rows bounds grew xs es′ qs s u) (sym a) (subst (λ (xs : List Event). Trace rows bounds grew (os ++ o ∷ []) xs qs s u) (sym b) (Trace.then o e tr tu))

@@ -15,7 +15,7 @@ returns-in-Continue-push g c =
     let the = deed {F = g .F .Denot} (g .Origin·Atom .number) (g .Loan·Atom .number) (g .Point·Atom .number) (g .Variable·Atom .number) (g .Path·Atom .number) in
     record {
       does = begins-run (g .T·Table .rows) (g .T·Table .bounds) (g .T·Table .grew) (vec-items (c .args .states .now)) _ (c .args .t .now) (c .args .step .now .run) (the (c .args .step .now .call)) (c .in-Ok .filling)
-        (ap the (c .in-Begin .is)) (c .in-Ok .ensures tt) (c .in-Continue-push .ensures tt .items);
+          (ap the (c .in-Begin .is)) (c .in-Ok .ensures tt) (c .in-Continue-push .ensures tt .items);
       kept = refl;
     }
 
@@ -24,7 +24,7 @@ returns-in-Err g c =
     let the = deed {F = g .F .Denot} (g .Origin·Atom .number) (g .Loan·Atom .number) (g .Point·Atom .number) (g .Variable·Atom .number) (g .Path·Atom .number) in
     record {
       does = begins-not (g .T·Table .rows) (g .T·Table .bounds) (g .T·Table .grew) (vec-items (c .args .states .now)) (c .args .t .now) (c .args .step .now .run) (the (c .args .step .now .call)) (c .in-Err .fault)
-        (ap the (c .in-Begin .is)) (c .in-Err .ensures tt);
+          (ap the (c .in-Begin .is)) (c .in-Err .ensures tt);
       kept = refl;
     }
 
@@ -36,7 +36,7 @@ returns-then-i-len g c =
     let out : length (vec-items (c .args .states .now)) ≤ c .args .step .now .run = omega (arith, n, k) in
     record {
       does = goes-nowhere (g .T·Table .rows) (g .T·Table .bounds) (g .T·Table .grew) (vec-items (c .args .states .now)) (c .args .t .now) (c .args .step .now .run) (the (c .args .step .now .call)) out
-        (on-run {F = g .F .Denot} (g .Origin·Atom .number) (g .Loan·Atom .number) (g .Point·Atom .number) (g .Variable·Atom .number) (g .Path·Atom .number) (c .args .step .now .call) (c .in-rest .not-Begin));
+          (on-run {F = g .F .Denot} (g .Origin·Atom .number) (g .Loan·Atom .number) (g .Point·Atom .number) (g .Variable·Atom .number) (g .Path·Atom .number) (c .args .step .now .call) (c .in-rest .not-Begin));
       kept = refl;
     }
 
@@ -52,6 +52,6 @@ returns g c =
     let o = on-run {F = g .F .Denot} (g .Origin·Atom .number) (g .Loan·Atom .number) (g .Point·Atom .number) (g .Variable·Atom .number) (g .Path·Atom .number) (c .args .step .now .call) (c .in-rest .not-Begin) in
     record {
       does = goes-on (g .T·Table .rows) (g .T·Table .bounds) (g .T·Table .grew) ss _ (c .args .t .now) (c .act-state .last .t) i (the (c .args .step .now .call)) (c .act-state .result .1) (c .replace-state .result) (c .act-state .result .0)
-        was (set-set ss i (c .replace-state .last .dest) (c .act-state .result .0)) (c .act-state .ensures .does o);
+          was (set-set ss i (c .replace-state .last .dest) (c .act-state .result .0)) (c .act-state .ensures .does o);
       kept = c .act-state .ensures .kept;
     }
