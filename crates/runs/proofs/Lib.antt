@@ -1,3 +1,4 @@
 pub mod Acts
 pub mod Turns
 pub mod Wholes
+pub mod Tellings

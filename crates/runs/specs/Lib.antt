@@ -1,3 +1,4 @@
 pub mod Histories
 pub mod Traces
 pub mod Promise
+pub mod Told

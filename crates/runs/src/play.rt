@@ -6,6 +6,7 @@ ghost use Rattle.std.specs.Vec.{made};
 ghost use Rattle.runs.specs.declared.script.Event.{Event};
 ghost use Rattle.runs.specs.Traces.{deed, orders, phase, phases, Phase, OnRun, Act, Turn, Played};
 ghost use Rattle.runs.specs.Promise.{Promised};
+ghost use Rattle.runs.specs.Told.{ToldInAtoms};
 use crate::script::Call;
 use crate::script::Event;
 use crate::script::State;
@@ -115,6 +116,7 @@ pub fn play<F: FactTypes, T: Table>(
 ) -> Result<Vec<Event>, AllocError>
     ensures played { λ r. ⌜ made r (λ log. Played (T·Table .rows) (T·Table .bounds) (T·Table .grew) (orders (Origin·Atom .number) (Loan·Atom .number) (Point·Atom .number) (Variable·Atom .number) (Path·Atom .number) (now (script .entry))) (vec-items log) (now (t .entry)) (now (t .exit))) ⌝ }
     ensures promised { λ r. ⌜ (T·Table .rows (now (t .entry)) ≡ [] → made r (λ log. Promised (vec-items log) (T·Table .rows (now (t .exit))))) ⌝ }
+    ensures atoms { λ r. ⌜ (T·Table .rows (now (t .entry)) ≡ [] → made r (λ log. ToldInAtoms (Origin·Atom .number) (Loan·Atom .number) (Point·Atom .number) (Variable·Atom .number) (Path·Atom .number) (now (script .entry)) (vec-items log) (T·Table .rows (now (t .exit))))) ⌝ }
     ensures kept { λ _. ⌜ T·Table .bounds (now (t .exit)) ≡ T·Table .bounds (now (t .entry)) ⌝ }
 {
     let mut states = Vec::new(heap);

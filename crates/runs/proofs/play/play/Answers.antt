@@ -14,6 +14,7 @@ use Rattle.runs.specs.declared.script.State.{State}
 use Rattle.runs.specs.Traces.{Order, Phase, orders, phases, Trace}
 use Rattle.runs.proofs.Turns.{order, orders-more, trace-more}
 use Rattle.runs.proofs.Wholes.{promised}
+use Rattle.runs.proofs.Tellings.{told}
 use Rattle.runs.proofs.play.play.Needs as need
 
 pub loop-step-holds : need.loop-step-holds
@@ -51,23 +52,30 @@ nothing (Err x) y e P = tt
 pub returns-in-Break-event : need.returns-in-Break-event
 returns-in-Break-event g c =
     let p = err-from-errBy (c .from-residual .result) (c .from-residual .ensures .1) in
-    record { played = nothing _ (p .0) (p .1) _; promised = λ z. nothing _ (p .0) (p .1) _; kept = c .turn .ensures .kept ∙ c .loop-step .inv .0 }
+    record { played = nothing _ (p .0) (p .1) _; promised = λ z. nothing _ (p .0) (p .1) _; atoms = λ z. nothing _ (p .0) (p .1) _; kept = c .turn .ensures .kept ∙ c .loop-step .inv .0 }
 
 pub returns-in-Break-push : need.returns-in-Break-push
 returns-in-Break-push g c =
     let p = err-from-errBy (c .from-residual-in-Break-push .result) (c .from-residual-in-Break-push .ensures .1) in
-    record { played = nothing _ (p .0) (p .1) _; promised = λ z. nothing _ (p .0) (p .1) _; kept = c .turn .ensures .kept ∙ c .loop-step .inv .0 }
+    record { played = nothing _ (p .0) (p .1) _; promised = λ z. nothing _ (p .0) (p .1) _; atoms = λ z. nothing _ (p .0) (p .1) _; kept = c .turn .ensures .kept ∙ c .loop-step .inv .0 }
 
 pub returns : need.returns
 returns g c =
     let i = c .loop-step .inv in
     let all = take-all (c .loop-step .step-index) (c .args .script .now) (c .loop-step-test .left) in
     let whole = orders {F = g .F .Denot} (g .Origin·Atom .number) (g .Loan·Atom .number) (g .Point·Atom .number) (g .Variable·Atom .number) (g .Path·Atom .number) in
+    let rows = g .T·Table .rows in
+    let bounds = g .T·Table .bounds in
+    let grew = g .T·Table .grew in
+    let es = vec-items (c .loop-step .log) in
+    let ps = phases (vec-items (c .loop-step .states)) in
+    let trace : Trace rows bounds grew (whole (c .args .script .now)) es ps (c .args .t .now) (c .loop-step .t) = subst (λ ss. Trace rows bounds grew (whole ss) es ps (c .args .t .now) (c .loop-step .t)) all (i .1) in
     record {
-      played = (
-        phases (vec-items (c .loop-step .states)),
-        subst (λ ss. Trace (g .T·Table .rows) (g .T·Table .bounds) (g .T·Table .grew) (whole ss) (vec-items (c .loop-step .log)) (phases (vec-items (c .loop-step .states))) (c .args .t .now) (c .loop-step .t)) all (i .1),
-      );
-      promised = λ empty. promised (g .T·Table .rows) (g .T·Table .bounds) (g .T·Table .grew) (g .T·Table .lawful) (i .1) empty;
+      played = (ps, trace);
+      promised = λ empty. promised rows bounds grew (g .T·Table .lawful) trace empty;
+      atoms = λ empty. told (g .F .Denot) (g .Origin·Atom .number) (g .Loan·Atom .number) (g .Point·Atom .number) (g .Variable·Atom .number) (g .Path·Atom .number)
+          (g .Origin·Atom .atom) (g .Loan·Atom .atom) (g .Point·Atom .atom) (g .Variable·Atom .atom) (g .Path·Atom .atom)
+          (g .Origin·Atom·met .back) (g .Loan·Atom·met .back) (g .Point·Atom·met .back) (g .Variable·Atom·met .back) (g .Path·Atom·met .back)
+          rows bounds grew (g .T·Table .lawful) (c .args .script .now) trace empty;
       kept = i .0;
     }
