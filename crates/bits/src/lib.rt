@@ -78,7 +78,8 @@ impl<'a> Bits<'a> {
                 held: 0,
             };
         };
-        for i in 0..words_for(width as usize) {
+        let needed = words_for(width as usize);
+        for i in 0..needed {
             words[i] = 0;
         }
         Bits {

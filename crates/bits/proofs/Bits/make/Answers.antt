@@ -19,7 +19,7 @@ loop-i-holds c = fill-none (c .args .words .now) 0
 in-words : (c : need.In-loop-i) → c .loop-i .i < length (c .args .words .now)
 in-words c =
     let f = opened (length (c .args .words .now)) (c .args .width) (c .in-Ok .ensures tt .answer) in
-    omega (arith, f .room, c .words-for-i-end .ensures, c .loop-i-test .taken)
+    omega (arith, f .room, c .words-for-needed .ensures, c .loop-i-test .taken)
 
 pub index-words-i : need.index-words-i
 index-words-i c = let l = in-words c in omega (arith, c .loop-i .kept .words)
@@ -30,7 +30,7 @@ loop-i-again c = ap (λ ws. set ws (c .loop-i .i) 0) (c .loop-i .inv) ∙ fill-m
 -- the words after the loop, and that they hold no row
 clear : (c : need.After-base) → c .loop-i .words ≡ cleared (words-for (c .args .width)) (c .args .words .now)
 clear c =
-    let n : c .loop-i .i ≡ words-for (c .args .width) = omega (arith, c .words-for-i-end .ensures) in
+    let n : c .loop-i .i ≡ words-for (c .args .width) = omega (arith, c .words-for-needed .ensures) in
     c .loop-i .inv ∙ ap (λ k. cleared k (c .args .words .now)) n
 
 empty : (c : need.After-base) → marked (c .args .width) (c .loop-i .words) 0 (c .base .result) ≡ []
