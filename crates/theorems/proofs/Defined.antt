@@ -87,5 +87,5 @@ completed-twice rows whole e r =
 pub completion-kept : CompletionKept
 completion-kept rows r m s = let j = joined-completed rows r m in (j .0 s, j .1 s)
 
-pub derived-number : OneNumber
-derived-number rows = one-number (Missing rows)
+pub one-derived : OneNumber
+one-derived rows = one-number (Missing rows)

@@ -6,3 +6,4 @@ pub mod Defined
 pub mod Proposals
 pub mod Runs
 pub mod Cases
+pub mod Exists

@@ -146,10 +146,10 @@ stands n (holds s ∷ ps) = eqb n (s .a) || (eqb n (s .b) || (eqb n (s .c) || st
 stands n (lacks s ∷ ps) = stands n ps
 stands n (differ x y ∷ ps) = stands n ps
 
-abbrev row-stands : Row → List Premise → Bool
+abbrev pub row-stands : Row → List Premise → Bool
 row-stands s ps = stands (s .a) ps && (stands (s .b) ps && stands (s .c) ps)
 
-abbrev all-stand : List Premise → List Premise → Bool
+abbrev pub all-stand : List Premise → List Premise → Bool
 all-stand [] qs = true
 all-stand (holds s ∷ ps) qs = row-stands s qs && all-stand ps qs
 all-stand (lacks s ∷ ps) qs = row-stands s qs && all-stand ps qs

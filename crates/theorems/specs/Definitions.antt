@@ -78,3 +78,13 @@ CompletionKept = (rows : List Row) (r : Row) → Completed rows r → (s : Row) 
 -- The number of derived rows is one number.
 abbrev pub OneNumber : Type 0
 OneNumber = (rows : List Row) (m n : ℕ) → Number (Missing rows) m → Number (Missing rows) n → m ≡ n
+
+-- The least sets, the completion and the derived rows are finite: a list has exactly their rows, and the derived rows have a number.
+abbrev pub LeastListed : Type 0
+LeastListed = (rows : List Row) (k : ℕ) → (whole : List Row) × Lists whole (least (rule-of k) (Among rows))
+
+abbrev pub CompletionListed : Type 0
+CompletionListed = (rows : List Row) → (whole : List Row) × Lists whole (Completed rows)
+
+abbrev pub DerivedNumbered : Type 0
+DerivedNumbered = (rows : List Row) → (n : ℕ) × Number (Missing rows) n

@@ -2,7 +2,7 @@
 ghost use Rattle.theorems.specs.Compared.{LoanErrorsCompared, SubsetErrorsCompared};
 ghost use Rattle.theorems.specs.Restriction.{SubsetStruck};
 ghost use Rattle.theorems.specs.Cases.{UsedLoan, KilledLoan, MovedThenAccessed, MovedNotReached, ChildMoved, KnownSubset, UnknownSubset, NoPlaceholder, SharedPlaceholder, MutualSubset, RegionNowhere, RegionLive};
-ghost use Rattle.theorems.specs.Definitions.{LeastHas, LeastClosed, LeastBelow, LeastUnique, LeastIsLeast, CompletionHas, CompletionClosed, CompletionLeast, CompletionFacts, CompletionOne, CompletedTwice, CompletionKept, OneNumber};
+ghost use Rattle.theorems.specs.Definitions.{LeastHas, LeastClosed, LeastBelow, LeastUnique, LeastIsLeast, CompletionHas, CompletionClosed, CompletionLeast, CompletionFacts, CompletionOne, CompletedTwice, CompletionKept, OneNumber, LeastListed, CompletionListed, DerivedNumbered};
 
 // Every naive loan error is a location-insensitive one.
 pub fn loan_errors_compared() -> u8
@@ -25,19 +25,20 @@ pub fn subset_struck() -> u8
     0
 }
 
-// Of a rule over rows, the least set has the rows, is closed, is below every closed set, and is one.
+// Of a rule over rows, the least set has the rows, is closed, is below every closed set, is one, and is finite.
 pub fn least_sets() -> u8
     ensures has { λ _. ⌜ LeastHas ⌝ }
     ensures closed { λ _. ⌜ LeastClosed ⌝ }
     ensures below { λ _. ⌜ LeastBelow ⌝ }
     ensures unique { λ _. ⌜ LeastUnique ⌝ }
     ensures least { λ _. ⌜ LeastIsLeast ⌝ }
+    ensures listed { λ _. ⌜ LeastListed ⌝ }
 {
     0
 }
 
 // The completion of any rows: it has them, is closed under each rule, adds no facts, has no more than it must, goes by which
-// rows they are, is complete itself, and stays as it is when a row of it is added.
+// rows they are, is complete itself, stays as it is when a row of it is added, and is finite.
 pub fn completions() -> u8
     ensures has { λ _. ⌜ CompletionHas ⌝ }
     ensures closed { λ _. ⌜ CompletionClosed ⌝ }
@@ -46,13 +47,15 @@ pub fn completions() -> u8
     ensures one { λ _. ⌜ CompletionOne ⌝ }
     ensures twice { λ _. ⌜ CompletedTwice ⌝ }
     ensures kept { λ _. ⌜ CompletionKept ⌝ }
+    ensures listed { λ _. ⌜ CompletionListed ⌝ }
 {
     0
 }
 
-// The number of derived rows is one number.
-pub fn one_number() -> u8
-    ensures { λ _. ⌜ OneNumber ⌝ }
+// There is a number of derived rows, and it is one number.
+pub fn derived_number() -> u8
+    ensures some { λ _. ⌜ DerivedNumbered ⌝ }
+    ensures one { λ _. ⌜ OneNumber ⌝ }
 {
     0
 }

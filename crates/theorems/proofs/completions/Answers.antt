@@ -1,4 +1,5 @@
 use Rattle.theorems.proofs.Defined.{completion-has, completion-closed, completion-least, completion-facts, completion-one, completed-twice, completion-kept}
+use Rattle.theorems.proofs.Exists.{completion-listed}
 use Rattle.theorems.proofs.completions.Needs as need
 
 pub returns : need.returns
@@ -10,4 +11,5 @@ returns c = record {
   one = completion-one;
   twice = completed-twice;
   kept = completion-kept;
+  listed = completion-listed;
 }
