@@ -1,2 +1,5 @@
 pub mod Compared
 pub mod Restriction
+pub mod Numbers
+pub mod Definitions
+pub mod Cases

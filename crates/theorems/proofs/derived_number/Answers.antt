@@ -1,0 +1,6 @@
+use Rattle.theorems.proofs.Defined.{one-derived}
+use Rattle.theorems.proofs.Exists.{derived-numbered}
+use Rattle.theorems.proofs.derived_number.Needs as need
+
+pub returns : need.returns
+returns c = record { some = derived-numbered; one = one-derived }
