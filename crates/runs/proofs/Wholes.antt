@@ -37,7 +37,8 @@ use Rattle.runs.specs.declared.script.Event.{Event}
 use Rattle.runs.specs.declared.script.Event.the-variants.{NotMade, Began, Put, Started, Advanced, Settled, Read}
 use Rattle.runs.specs.Histories.{accept, accepted-onto, accepted, reported, additions, begun-by, begins, or-done, reached, of-advance}
 use Rattle.runs.specs.Traces.{Deed, Order, Phase, at, Act, Turn, Trace}
-use Rattle.runs.specs.Promise.{Distinct, Number, ReadRight, ReadsRight, Promised}
+use Rattle.theorems.specs.Numbers.{Distinct, Number}
+use Rattle.runs.specs.Promise.{ReadRight, ReadsRight, Promised}
 
 -- One event more, at the end of a history.
 accepted-more : (facts : List Row) (es : List Event) (e : Event) → accepted-onto facts (es ++ e ∷ []) ≡ accept e (accepted-onto facts es)
@@ -140,20 +141,21 @@ module _ {S : Type 0} (rows : S → List Row) (grew : S → Row → S → Type 0
 
   -- where nothing is missing in the end, what was added is what was missing
   pub adds-number : {n : ℕ} {s t : S} → Adds rows grew n s t → ((r : Row) → ¬ Missing (rows t) r) → Number (Missing (rows s)) n
-  adds-number {s = s} {t = t} a full =
+  adds-number {s = s} {t = t} a none-missing =
       let w = gone a in
-      let same = adds-completed rows grew a in (
-        w .list,
-        w .apart,
-        λ r. (
+      let same = adds-completed rows grew a in
+      record {
+        rows = w .list;
+        distinct = w .apart;
+        lists = λ r. (
           (λ m. ⊎-elim
               (λ h. ⊎-elim (λ k. absurd (m .1 k)) (λ k. k) (w .either r h))
-              (λ n. absurd (full r (same .1 r (m .0), n)))
+              (λ n. absurd (none-missing r (same .1 r (m .0), n)))
               (decide (has (rows t) r))),
           λ m. w .was r m .0,
-        ),
-        w .many,
-      )
+        );
+        many = w .many;
+      }
 
   pub full-table : {n : ℕ} {s t : S} → Adds rows grew n s t → ((r : Row) → ¬ Missing (rows t) r) → (r : Row) → (Among (rows t) r ↔ Completed (rows s) r)
   full-table {t = t} a full r =

@@ -3,24 +3,18 @@ use mathlib.Core.Path.{_≡_}
 use mathlib.Core.List.{List, [], _∷_}
 use mathlib.Core.Logic.{_↔_}
 use Prim.Native.Nat.{ℕ}
-use lib.ListN.{length}
-use Rattle.std.specs.declared.option.Option.{Option}
 use Rattle.rows.specs.declared.row.Row.{Row}
-use Rattle.rows.specs.Relations.{universal-region, placeholder, errors, potential-errors, subset-errors, potential-subset-errors}
-use Rattle.datalog.specs.Contents.{Content, Among}
+use Rattle.rows.specs.Adding.{joined}
+use Rattle.rows.specs.Words.{written}
+use Rattle.rows.specs.Relations.{errors, potential-errors, subset-errors, potential-subset-errors}
+use Rattle.datalog.specs.Contents.{Among}
 use Rattle.output.specs.Completion.{Completed, Missing}
+use Rattle.theorems.specs.Compared.{EachOwnsPlaceholder}
+use Rattle.theorems.specs.Numbers.{Number}
 use Rattle.analysis.specs.Calls.{read-answer}
 use Rattle.runs.specs.declared.script.Event.{Event}
 use Rattle.runs.specs.declared.script.Event.the-variants.{NotMade, Began, Put, Started, Advanced, Settled, Read}
 use Rattle.runs.specs.Histories.{accepted, additions, begins, reached}
-
--- No row stands twice, and n is the number of the rows for which P holds.
-abbrev pub Distinct : List Row → Type 0
-Distinct [] = Unit {0}
-Distinct (r ∷ rs) = (¬ Among rs r) × Distinct rs
-
-abbrev pub Number : Content → ℕ → Type 0
-Number P n = (rs : List Row) × Distinct rs × ((r : Row) → (P r ↔ Among rs r)) × (length rs ≡ n)
 
 -- Each read answered the least row held that is in the relation asked and not below the row asked, or none.
 abbrev pub ReadRight : List Row → Event → Type 0
@@ -36,10 +30,6 @@ abbrev pub ReadsRight : List Row → List Event → Type 0
 ReadsRight table [] = Unit {0}
 ReadsRight table (e ∷ es) = ReadRight table e × ReadsRight table es
 
--- A placeholder loan of the origin that no other origin has.
-abbrev pub OwnLoan : List Row → ℕ → Type 0
-OwnLoan facts origin = (loan : ℕ) × Among facts (placeholder origin loan) × ((other : ℕ) → Among facts (placeholder other loan) → other ≡ origin)
-
 -- If exactly one begin was accepted and Done was reached, then the table holds the accepted facts and their derived rows,
 -- no others; the additions reported are the number of derived rows; each read is right; every naive loan error is a
 -- location-insensitive one; and where every universal region has a placeholder loan that no other origin has, every naive
@@ -50,5 +40,10 @@ Promised es table = begins es ≡ 1 → reached es →
     × Number (Missing (accepted es)) (additions es)
     × ReadsRight table es
     × ((loan point : ℕ) → Completed (accepted es) (errors loan point) → Completed (accepted es) (potential-errors loan point))
-    × (((origin : ℕ) → Among (accepted es) (universal-region origin) → OwnLoan (accepted es) origin)
+    × (EachOwnsPlaceholder (accepted es)
     → (origin1 origin2 point : ℕ) → Completed (accepted es) (subset-errors origin1 origin2 point) → Completed (accepted es) (potential-subset-errors origin1 origin2)))
+
+-- A run on a list over words: the words then begin with the rows of the run, in the order of their adding, and keep what they
+-- had after those; and of these rows the promise holds.
+abbrev pub PromisedOnWords : List Event → List ℕ → List ℕ → Type 0
+PromisedOnWords es before after = (rows : List Row) × (after ≡ written rows before) × Promised es (joined [] rows)
