@@ -1,8 +1,11 @@
 // The derived rows of a table.
 ghost use mathlib.Core.Path.{_≡_};
+ghost use Prim.Native.Nat.{_<_};
 ghost use Rattle.std.specs.Of.Vec.{vec-items};
 ghost use Rattle.std.specs.Vec.{made};
 ghost use Rattle.rows.specs.Rows.{rest, start};
+ghost use Rattle.output.specs.Progressing.{Completing};
+ghost use Rattle.listing.specs.Listing.{most, unspent};
 use output::complete::complete;
 use output::progress::Progress;
 use output::progress::Stop;
@@ -12,11 +15,15 @@ use std::alloc::AllocError;
 use std::alloc::Global;
 use table::Table;
 
-// Completes a table, and answers how many rows were added.
-pub fn derive<T: Table>(t: &mut T) -> Result<u32, Stop> {
+// Completes a table, and answers how many rows were added. The table has less room than the largest budget, so that this is
+// never spent.
+pub fn derive<T: Table>(t: &mut T) -> Result<u32, Stop>
+    requires { ⌜ T·Table .bounds (now t) .total < most ⌝ }
+    ensures { λ r. ⌜ Completing (T·Table .rows) (T·Table .bounds) (T·Table .grew) most (now (t .entry)) (unspent r) (now (t .exit)) ⌝ }
+{
     match complete(t, u32::MAX)? {
         Progress::Finished(n) => Ok(n),
-        Progress::Spent(n) => Ok(n),
+        Progress::Spent(_) => unreachable(),
     }
 }
 

@@ -1,4 +1,15 @@
 // Every derived row of a facts file as text, or the one line of its refusal.
+ghost use mathlib.Core.Path.{_≡_};
+ghost use mathlib.Core.List.{[], _++_};
+ghost use Prim.Native.Nat.{_<_};
+ghost use lib.Chars.{codes};
+ghost use Rattle.std.specs.Of.String.{string-bytes};
+ghost use Rattle.std.specs.Of.Vec.{vec-items};
+ghost use Rattle.std.specs.Results.{Cases};
+ghost use Rattle.std.specs.Vec.{made};
+ghost use Rattle.std.specs.declared.result.Result.the-variants.{Ok, Err};
+ghost use Rattle.listing.specs.Listing.{most, Lists, Listing};
+ghost use Rattle.listing.specs.Text.{fault-words};
 use crate::derive::derive;
 use crate::derive::derived_rows;
 use crate::fault::ListingFault;
@@ -39,7 +50,10 @@ pub fn dump(heap: Global, bytes: &[u8]) -> Result<String, AllocError> {
     }
 }
 
-fn refusal(heap: Global, fault: ListingFault) -> Result<String, AllocError> {
+// The one line of a refusal.
+fn refusal(heap: Global, fault: ListingFault) -> Result<String, AllocError>
+    ensures { λ r. ⌜ made r (λ s. string-bytes s ≡ fault-words fault ++ codes "\n") ⌝ }
+{
     match fault {
         ListingFault::NoMemory => Err(AllocError),
         _ => format!(heap, "{fault}\n"),
@@ -47,7 +61,9 @@ fn refusal(heap: Global, fault: ListingFault) -> Result<String, AllocError> {
 }
 
 // The derived rows of a facts file, on a list of its own.
-fn dump_rows(heap: Global, bytes: &[u8]) -> Result<Vec<Row>, ListingFault> {
+fn dump_rows(heap: Global, bytes: &[u8]) -> Result<Vec<Row>, ListingFault>
+    ensures { λ r. ⌜ made r (λ v. Lists (now (bytes .entry)) (vec-items v)) ⌝ }
+{
     if bytes.len() > MOST_BYTES {
         return Err(ListingFault::Input);
     }
@@ -58,7 +74,11 @@ fn dump_rows(heap: Global, bytes: &[u8]) -> Result<Vec<Row>, ListingFault> {
 }
 
 // The derived rows of a facts file, on any table.
-pub fn rows_of<T: Table>(heap: Global, t: &mut T, bytes: &[u8]) -> Result<Vec<Row>, ListingFault> {
+pub fn rows_of<T: Table>(heap: Global, t: &mut T, bytes: &[u8]) -> Result<Vec<Row>, ListingFault>
+    requires { ⌜ T·Table .bounds (now t) .total < most ⌝ }
+    ensures does { λ r. ⌜ Cases r (λ v. Listing (T·Table .rows) (T·Table .bounds) (T·Table .grew) (now (bytes .entry)) (now (t .entry)) (Ok (vec-items v)) (now (t .exit))) (λ e. Listing (T·Table .rows) (T·Table .bounds) (T·Table .grew) (now (bytes .entry)) (now (t .entry)) (Err e) (now (t .exit))) ⌝ }
+    ensures lists { λ r. ⌜ (T·Table .rows (now (t .entry)) ≡ [] → made r (λ v. Lists (now (bytes .entry)) (vec-items v))) ⌝ }
+{
     let _added = load(t, bytes)?;
     let _derived = derive(t)?;
     Ok(derived_rows(heap, t)?)

@@ -1,7 +1,9 @@
 // Why a listing cannot be made.
 ghost use mathlib.Core.Path.{_≡_};
 ghost use Rattle.listing.specs.declared.fault.ListingFault.the-variants.{Opening, Reading, Deriving, NoMemory};
+ghost use Rattle.std.specs.declared.option.Option.the-variants.{Some};
 ghost use Rattle.listing.specs.Faults.{listing-number};
+ghost use Rattle.listing.specs.Text.{fault-words};
 use facts::record::ReadFault;
 use output::progress::Stop;
 use rows::answer::OpenFault;
@@ -84,6 +86,8 @@ pub impl<T: Drop> From<Refused<T>> for ListingFault as ListingFaultFromRefused {
 
 // The line of a refusal: where the fact's record stands, or the relation that was being derived.
 pub impl fmt::Display for ListingFault as ListingFaultDisplay {
+    ghost shown = { λ x. Some (fault-words x) };
+
     fn fmt<W: fmt::Write>(&self, f: &mut fmt::Formatter<W>) -> fmt::Result {
         let Some(number) = self.number() else {
             return write!(f, "no memory");
