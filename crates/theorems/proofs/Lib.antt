@@ -7,3 +7,4 @@ pub mod Proposals
 pub mod Runs
 pub mod Cases
 pub mod Exists
+pub mod Added

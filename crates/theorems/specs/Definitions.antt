@@ -10,7 +10,7 @@ use Rattle.rows.specs.Rows.{insert}
 use Rattle.datalog.specs.Contents.{Among}
 use Rattle.datalog.specs.Datalog.{Rule, Proposes, least}
 use Rattle.output.specs.Program.{rule-of}
-use Rattle.output.specs.Completion.{Completed, Missing}
+use Rattle.output.specs.Completion.{Completed, Missing, Adds}
 use Rattle.theorems.specs.Numbers.{Lists, Number}
 
 -- A set, by its test, that has the rows; and one that has what a rule proposes over it, denials taken from the rows.
@@ -88,3 +88,8 @@ CompletionListed = (rows : List Row) → (whole : List Row) × Lists whole (Comp
 
 abbrev pub DerivedNumbered : Type 0
 DerivedNumbered = (rows : List Row) → (n : ℕ) × Number (Missing rows) n
+
+-- Where missing rows are added one after the other until none is missing, the number of additions is that of the derived rows.
+abbrev pub AdditionsNumber : Type 0
+AdditionsNumber = (n : ℕ) (before after : List Row) → Adds (λ rows. rows) (λ s r t. Unit {0}) n before after
+    → ((r : Row) → ¬ Missing after r) → Number (Missing before) n

@@ -2,7 +2,7 @@
 ghost use Rattle.theorems.specs.Compared.{LoanErrorsCompared, SubsetErrorsCompared};
 ghost use Rattle.theorems.specs.Restriction.{SubsetStruck};
 ghost use Rattle.theorems.specs.Cases.{UsedLoan, KilledLoan, MovedThenAccessed, MovedNotReached, ChildMoved, KnownSubset, UnknownSubset, NoPlaceholder, SharedPlaceholder, MutualSubset, RegionNowhere, RegionLive};
-ghost use Rattle.theorems.specs.Definitions.{LeastHas, LeastClosed, LeastBelow, LeastUnique, LeastIsLeast, CompletionHas, CompletionClosed, CompletionLeast, CompletionFacts, CompletionOne, CompletedTwice, CompletionKept, OneNumber, LeastListed, CompletionListed, DerivedNumbered};
+ghost use Rattle.theorems.specs.Definitions.{LeastHas, LeastClosed, LeastBelow, LeastUnique, LeastIsLeast, CompletionHas, CompletionClosed, CompletionLeast, CompletionFacts, CompletionOne, CompletedTwice, CompletionKept, OneNumber, LeastListed, CompletionListed, DerivedNumbered, AdditionsNumber};
 
 // Every naive loan error is a location-insensitive one.
 pub fn loan_errors_compared() -> u8
@@ -52,10 +52,11 @@ pub fn completions() -> u8
     0
 }
 
-// There is a number of derived rows, and it is one number.
+// There is a number of derived rows, it is one number, and as many are added until none is missing.
 pub fn derived_number() -> u8
     ensures some { λ _. ⌜ DerivedNumbered ⌝ }
     ensures one { λ _. ⌜ OneNumber ⌝ }
+    ensures added { λ _. ⌜ AdditionsNumber ⌝ }
 {
     0
 }
