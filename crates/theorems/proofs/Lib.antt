@@ -8,3 +8,4 @@ pub mod Runs
 pub mod Cases
 pub mod Exists
 pub mod Added
+pub mod Unique

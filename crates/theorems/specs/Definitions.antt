@@ -2,7 +2,7 @@
 use mathlib.Core.Path.{_≡_}
 use mathlib.Core.Bool.{Bool}
 use mathlib.Core.List.{List}
-use mathlib.Core.Logic.{_↔_}
+use mathlib.Core.Logic.{_↔_, _⊎_}
 use Prim.Native.Nat.{ℕ, _≤_, _<_}
 use lib.Dec.{T}
 use Rattle.rows.specs.declared.row.Row.{Row}
@@ -62,6 +62,24 @@ CompletionLeast = (rows : List Row) (k : ℕ) → 18 ≤ k → k < 40 → (set :
 -- Completing adds nothing to the relations below 18.
 abbrev pub CompletionFacts : Type 0
 CompletionFacts = (rows : List Row) (r : Row) → r .relation < 18 → Completed rows r → Among rows r
+
+-- A set that has the rows given, adds none to relations that have no rule, is closed under each rule, and of each derived
+-- relation has no more than any set that has what is given of it and what its rule proposes.
+pub record IsCompletion (rows : List Row) (set : Row → Bool) : Type 0 where
+  pub has : Has rows set
+  pub derived : (r : Row) → T (set r) → (r .relation < 18) ⊎ (40 ≤ r .relation) → Among rows r
+  pub closed : (k : ℕ) → 18 ≤ k → k < 40 → (r : Row) → Proposes (rule-of k) (λ s. T (set s)) (λ s. T (set s)) r → T (set r)
+  pub least : (k : ℕ) → 18 ≤ k → k < 40 → (other : Row → Bool)
+      → ((r : Row) → r .relation ≡ k → Among rows r → T (other r))
+      → ((r : Row) → Proposes (rule-of k) (λ s. T (set s) × (s .relation ≡ k → T (other s))) (λ s. T (set s)) r → T (other r))
+      → (r : Row) → r .relation ≡ k → T (set r) → T (other r)
+
+-- The completion is such a set, and the only one.
+abbrev pub CompletionIsOne : Type 0
+CompletionIsOne = (rows : List Row) (set : Row → Bool) → ((r : Row) → (Completed rows r ↔ T (set r))) → IsCompletion rows set
+
+abbrev pub CompletionUnique : Type 0
+CompletionUnique = (rows : List Row) (set : Row → Bool) → IsCompletion rows set → (r : Row) → (Completed rows r ↔ T (set r))
 
 -- It goes by which rows are given, and not by how they are listed.
 abbrev pub CompletionOne : Type 0
