@@ -1,22 +1,22 @@
 -- The cases, by computation.
 use mathlib.Core.Path.{_≡_, refl, sym, _∙_, ap, subst}
-use mathlib.Core.Bool.{Bool, true, false, not, cond, _&&_}
+use mathlib.Core.Bool.{Bool, true, not, _&&_}
 use mathlib.Core.List.{List, [], _∷_, _++_}
-use mathlib.Core.Logic.{_↔_, inl, inr, ⊎-elim}
+use mathlib.Core.Logic.{⊎-elim}
 use Prim.Native.Nat.{ℕ}
-use lib.Dec.{T, eqb}
+use lib.Dec.{eqb}
 use lib.ListN.{length}
 use Rattle.std.proofs.shelf.Tests.{and-parts, not-true, eq-eqb, cond-true, cond-both}
 use Rattle.rows.specs.declared.row.Row.{Row}
 use Rattle.rows.specs.Rows.{has, same, of-relation}
-use Rattle.rows.specs.Relations.{loan-issued-at, universal-region, cfg-edge, loan-killed-at, subset-base, loan-invalidated-at, var-used-at, use-of-var-derefs-origin, child-path, path-moved-at-base, path-accessed-at-base, known-placeholder-subset, placeholder, move-error, var-live-on-entry, origin-live-on-entry, subset, origin-contains-loan-on-entry, loan-live-at, errors, subset-errors, origin-contains-loan-anywhere, potential-errors, potential-subset-errors}
+use Rattle.rows.specs.Relations.{universal-region, cfg-edge, subset-base, child-path, path-moved-at-base, path-accessed-at-base, move-error, origin-live-on-entry, subset, errors, subset-errors, potential-errors, potential-subset-errors}
 use Rattle.datalog.specs.Contents.{Among}
-use Rattle.datalog.proofs.Truths.{T-from, T-not}
+use Rattle.datalog.proofs.Truths.{T-not}
 use Rattle.datalog.proofs.Engine.{has-here, has-there, has-cons, has-none}
 use Rattle.output.specs.Program.{program}
-use Rattle.output.specs.Completion.{Completed, Missing}
+use Rattle.output.specs.Completion.{Missing}
 use Rattle.theorems.specs.Numbers.{Lists, Distinct}
-use Rattle.theorems.specs.Cases.{Tells, Derives, used-loan, UsedLoan, killed-loan, KilledLoan, MovedThenAccessed, MovedNotReached, ChildMoved, three-regions, KnownSubset, UnknownSubset, two-regions, NoPlaceholder, shared-placeholder, SharedPlaceholder, MutualSubset, RegionNowhere, RegionLive}
+use Rattle.theorems.specs.Cases.{Tells, Derives, used-loan, used-loan-derived, UsedLoan, killed-loan, killed-loan-derived, KilledLoan, MovedThenAccessed, MovedNotReached, ChildMoved, three-regions, KnownSubset, UnknownSubset, two-regions, NoPlaceholder, shared-placeholder, SharedPlaceholder, MutualSubset, RegionNowhere, RegionLive}
 use Rattle.theorems.proofs.Proposals.{has-either}
 use Rattle.theorems.proofs.Runs.{within, run, ended, all-ranged, within-has, run-completes}
 
@@ -34,44 +34,48 @@ of-relation-has k (s ∷ rows) r e h =
     (λ m. cond-both (eqb (s .relation) k) (s ∷ of-relation k rows) (of-relation k rows) (λ l. Among l r)
     (λ _. has-there s (of-relation k rows) r (of-relation-has k rows r e m)) (λ _. of-relation-has k rows r e m))
 
-module _ (n : ℕ) (facts : List Row) where
-  abbrev whole : List Row
-  whole = run n program facts
+-- no row of one list is in the other, and no row stands twice
+abbrev disjoint : List Row → List Row → Bool
+disjoint [] d = true
+disjoint (r ∷ rs) d = not (has d r) && disjoint rs d
 
-  tells : (k : ℕ) (rows : List Row) → ended n program facts ≡ true → within (of-relation k whole) rows ≡ true → within rows whole ≡ true → Tells facts k rows
+abbrev distinct : List Row → Bool
+distinct [] = true
+distinct (r ∷ rs) = not (has rs r) && distinct rs
+
+not-both : (l d : List Row) (r : Row) → disjoint l d ≡ true → Among l r → ¬ Among d r
+not-both [] d r h m = absurd (has-none r m)
+not-both (s ∷ l) d r h m =
+    let a = and-parts (not (has d s)) (disjoint l d) h in
+    has-cons s l r m (λ e. subst (λ t. ¬ Among d t) e (T-not _ (not-true _ (a .0)))) (λ k. not-both l d r (a .1) k)
+
+is-distinct : (l : List Row) → distinct l ≡ true → Distinct l
+is-distinct [] h = tt
+is-distinct (r ∷ rs) h =
+    let a = and-parts (not (has rs r)) (distinct rs) h in (T-not _ (not-true _ (a .0)), is-distinct rs (a .1))
+
+-- rounds enough for each relation of the cases
+abbrev rounds : ℕ
+rounds = 9
+
+module _ (facts : List Row) where
+  abbrev whole : List Row
+  whole = run rounds program facts
+
+  tells : (k : ℕ) (rows : List Row) → ended rounds program facts ≡ true → within (of-relation k whole) rows ≡ true → within rows whole ≡ true → Tells facts k rows
   tells k rows e f g r i =
-      let w = run-completes n program facts program-ranged e r in (
+      let w = run-completes rounds program facts program-ranged e r in (
         λ m. within-has (of-relation k whole) rows r f (of-relation-has k whole r i (w .0 m)),
         λ m. w .1 (within-has rows whole r g m),
       )
 
-  -- no row of one list is in the other, and no row stands twice
-  abbrev disjoint : List Row → List Row → Bool
-  disjoint [] d = true
-  disjoint (r ∷ rs) d = not (has d r) && disjoint rs d
-
-  abbrev distinct : List Row → Bool
-  distinct [] = true
-  distinct (r ∷ rs) = not (has rs r) && distinct rs
-
-  not-both : (l d : List Row) (r : Row) → disjoint l d ≡ true → Among l r → ¬ Among d r
-  not-both [] d r h m = absurd (has-none r m)
-  not-both (s ∷ l) d r h m =
-      let a = and-parts (not (has d s)) (disjoint l d) h in
-      has-cons s l r m (λ e. subst (λ t. ¬ Among d t) e (T-not _ (not-true _ (a .0)))) (λ k. not-both l d r (a .1) k)
-
-  is-distinct : (l : List Row) → distinct l ≡ true → Distinct l
-  is-distinct [] h = tt
-  is-distinct (r ∷ rs) h =
-      let a = and-parts (not (has rs r)) (distinct rs) h in (T-not _ (not-true _ (a .0)), is-distinct rs (a .1))
-
-  derives : (rows : List Row) (many : ℕ) → ended n program facts ≡ true → within whole (rows ++ facts) ≡ true → within rows whole ≡ true
+  derives : (rows : List Row) (many : ℕ) → ended rounds program facts ≡ true → within whole (rows ++ facts) ≡ true → within rows whole ≡ true
       → disjoint rows facts ≡ true → distinct rows ≡ true → length rows ≡ many → Derives facts rows many
   derives rows many e f g d u l = (lists, is-distinct rows u, l)
     where
       lists : Lists rows (Missing facts)
       lists r =
-          let w = run-completes n program facts program-ranged e r in (
+          let w = run-completes rounds program facts program-ranged e r in (
             λ m. ⊎-elim (λ k. k) (λ k. absurd (m .1 k)) (has-either rows facts r (within-has whole (rows ++ facts) r f (w .0 (m .0)))),
             λ m. (w .1 (within-has rows whole r g m), not-both rows facts r d m),
           )
@@ -79,81 +83,66 @@ module _ (n : ℕ) (facts : List Row) where
 pub used-loan-case : UsedLoan
 unfolding has same of-relation
 used-loan-case = (
-  derives 9 used-loan (
-      var-live-on-entry 0 0 ∷ var-live-on-entry 0 1 ∷ var-live-on-entry 0 2 ∷
-      origin-live-on-entry 2 0 ∷ origin-live-on-entry 2 1 ∷ origin-live-on-entry 2 2 ∷
-      subset 0 1 0 ∷ subset 0 2 0 ∷ subset 1 2 0 ∷
-      origin-contains-loan-on-entry 0 0 0 ∷ origin-contains-loan-on-entry 1 0 0 ∷ origin-contains-loan-on-entry 2 0 0 ∷
-      origin-contains-loan-on-entry 2 0 1 ∷ origin-contains-loan-on-entry 2 0 2 ∷
-      loan-live-at 0 0 ∷ loan-live-at 0 1 ∷ loan-live-at 0 2 ∷ errors 0 2 ∷
-      origin-contains-loan-anywhere 0 0 ∷ origin-contains-loan-anywhere 1 0 ∷ origin-contains-loan-anywhere 2 0 ∷
-      potential-errors 0 2 ∷ []) 22 refl refl refl refl refl refl,
-  tells 9 used-loan 35 (errors 0 2 ∷ []) refl refl refl,
-  tells 9 used-loan 38 (potential-errors 0 2 ∷ []) refl refl refl,
+  derives used-loan used-loan-derived 22 refl refl refl refl refl refl,
+  tells used-loan 35 (errors 0 2 ∷ []) refl refl refl,
+  tells used-loan 38 (potential-errors 0 2 ∷ []) refl refl refl,
 )
 
 pub killed-loan-case : KilledLoan
 unfolding has same of-relation
 killed-loan-case = (
-  derives 9 killed-loan (
-      var-live-on-entry 0 0 ∷ var-live-on-entry 0 1 ∷ var-live-on-entry 0 2 ∷
-      origin-live-on-entry 2 0 ∷ origin-live-on-entry 2 1 ∷ origin-live-on-entry 2 2 ∷
-      subset 0 1 0 ∷ subset 0 2 0 ∷ subset 1 2 0 ∷
-      origin-contains-loan-on-entry 0 0 0 ∷ origin-contains-loan-on-entry 1 0 0 ∷ origin-contains-loan-on-entry 2 0 0 ∷
-      loan-live-at 0 0 ∷
-      origin-contains-loan-anywhere 0 0 ∷ origin-contains-loan-anywhere 1 0 ∷ origin-contains-loan-anywhere 2 0 ∷
-      potential-errors 0 2 ∷ []) 17 refl refl refl refl refl refl,
-  tells 9 killed-loan 35 [] refl refl refl,
-  tells 9 killed-loan 38 (potential-errors 0 2 ∷ []) refl refl refl,
+  derives killed-loan killed-loan-derived 17 refl refl refl refl refl refl,
+  tells killed-loan 35 [] refl refl refl,
+  tells killed-loan 38 (potential-errors 0 2 ∷ []) refl refl refl,
 )
 
 pub moved-then-accessed : MovedThenAccessed
 unfolding has same of-relation
 moved-then-accessed =
-    tells 9 (path-moved-at-base 0 0 ∷ cfg-edge 0 1 ∷ path-accessed-at-base 0 1 ∷ []) 26 (move-error 0 1 ∷ []) refl refl refl
+    tells (path-moved-at-base 0 0 ∷ cfg-edge 0 1 ∷ path-accessed-at-base 0 1 ∷ []) 26 (move-error 0 1 ∷ []) refl refl refl
 
 pub moved-not-reached : MovedNotReached
 unfolding has same of-relation
-moved-not-reached = tells 9 (path-moved-at-base 0 0 ∷ path-accessed-at-base 0 1 ∷ []) 26 [] refl refl refl
+moved-not-reached = tells (path-moved-at-base 0 0 ∷ path-accessed-at-base 0 1 ∷ []) 26 [] refl refl refl
 
 pub child-moved : ChildMoved
 unfolding has same of-relation
 child-moved =
-    tells 9 (child-path 1 0 ∷ path-moved-at-base 1 0 ∷ cfg-edge 0 1 ∷ path-accessed-at-base 0 1 ∷ []) 26 (move-error 1 1 ∷ []) refl refl refl
+    tells (child-path 1 0 ∷ path-moved-at-base 1 0 ∷ cfg-edge 0 1 ∷ path-accessed-at-base 0 1 ∷ []) 26 (move-error 1 1 ∷ []) refl refl refl
 
 pub known-subset : KnownSubset
 unfolding has same of-relation
 known-subset = (
-  tells 9 (subset-base 0 2 0 ∷ three-regions) 36 [] refl refl refl,
-  tells 9 (subset-base 0 2 0 ∷ three-regions) 39 [] refl refl refl,
+  tells (subset-base 0 2 0 ∷ three-regions) 36 [] refl refl refl,
+  tells (subset-base 0 2 0 ∷ three-regions) 39 [] refl refl refl,
 )
 
 pub unknown-subset : UnknownSubset
 unfolding has same of-relation
 unknown-subset = (
-  tells 9 (subset-base 2 0 0 ∷ three-regions) 36 (subset-errors 2 0 0 ∷ []) refl refl refl,
-  tells 9 (subset-base 2 0 0 ∷ three-regions) 39 (potential-subset-errors 2 0 ∷ []) refl refl refl,
+  tells (subset-base 2 0 0 ∷ three-regions) 36 (subset-errors 2 0 0 ∷ []) refl refl refl,
+  tells (subset-base 2 0 0 ∷ three-regions) 39 (potential-subset-errors 2 0 ∷ []) refl refl refl,
 )
 
 pub no-placeholder : NoPlaceholder
 unfolding has same of-relation
-no-placeholder = (tells 9 two-regions 36 (subset-errors 0 1 0 ∷ []) refl refl refl, tells 9 two-regions 39 [] refl refl refl)
+no-placeholder = (tells two-regions 36 (subset-errors 0 1 0 ∷ []) refl refl refl, tells two-regions 39 [] refl refl refl)
 
 pub shared-placeholder-case : SharedPlaceholder
 unfolding has same of-relation
 shared-placeholder-case = (
-  tells 9 shared-placeholder 36 (subset-errors 0 1 0 ∷ []) refl refl refl,
-  tells 9 shared-placeholder 39 [] refl refl refl,
+  tells shared-placeholder 36 (subset-errors 0 1 0 ∷ []) refl refl refl,
+  tells shared-placeholder 39 [] refl refl refl,
 )
 
 pub mutual-subset : MutualSubset
 unfolding has same of-relation
-mutual-subset = tells 9 (subset-base 0 1 0 ∷ subset-base 1 0 0 ∷ []) 32 (subset 0 1 0 ∷ subset 1 0 0 ∷ []) refl refl refl
+mutual-subset = tells (subset-base 0 1 0 ∷ subset-base 1 0 0 ∷ []) 32 (subset 0 1 0 ∷ subset 1 0 0 ∷ []) refl refl refl
 
 pub region-nowhere : RegionNowhere
 unfolding has same of-relation
-region-nowhere = tells 9 (universal-region 0 ∷ []) 29 [] refl refl refl
+region-nowhere = tells (universal-region 0 ∷ []) 29 [] refl refl refl
 
 pub region-live : RegionLive
 unfolding has same of-relation
-region-live = tells 9 (universal-region 0 ∷ cfg-edge 0 1 ∷ []) 29 (origin-live-on-entry 0 0 ∷ origin-live-on-entry 0 1 ∷ []) refl refl refl
+region-live = tells (universal-region 0 ∷ cfg-edge 0 1 ∷ []) 29 (origin-live-on-entry 0 0 ∷ origin-live-on-entry 0 1 ∷ []) refl refl refl

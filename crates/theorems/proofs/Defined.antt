@@ -1,21 +1,19 @@
 -- The laws of the definitions, over lists of rows.
-use mathlib.Core.Path.{_≡_, refl, sym, _∙_, ap, subst}
+use mathlib.Core.Path.{_≡_, sym, _∙_}
 use mathlib.Core.Bool.{Bool, true, false}
 use mathlib.Core.List.{List, [], _∷_}
-use mathlib.Core.Logic.{_↔_}
-use Prim.Native.Nat.{ℕ, _≤_, _<_}
 use lib.Dec.{T}
 use Rattle.rows.specs.declared.row.Row.{Row}
 use Rattle.datalog.specs.Contents.{Content, Among, Least}
 use Rattle.datalog.specs.Datalog.{Rule, Proposes, least, complete}
-use Rattle.datalog.proofs.Truths.{T-from, T-is, not-T, decide}
+use Rattle.datalog.proofs.Truths.{T-is, not-T}
 use Rattle.datalog.proofs.Engine.{Sub, some-mono, least-closed, least-inside, complete-same, complete-keeps}
 use Rattle.datalog.proofs.Complete.{In, complete-below, complete-closed, complete-induct}
 use Rattle.output.specs.Program.{program, rule-of}
 use Rattle.output.specs.Completion.{Completed, Missing}
 use Rattle.output.proofs.Ruled.{program-stratified, rule-in}
 use Rattle.output.proofs.Completing.{joined-completed}
-use Rattle.theorems.specs.Definitions.{Has, Closed, IsLeast, LeastHas, LeastClosed, LeastBelow, LeastUnique, LeastIsLeast, CompletionHas, CompletionClosed, CompletionLeast, CompletionFacts, CompletionOne, CompletedTwice, CompletionKept, OneNumber}
+use Rattle.theorems.specs.Definitions.{LeastHas, LeastClosed, LeastBelow, LeastUnique, LeastIsLeast, CompletionHas, CompletionClosed, CompletionLeast, CompletionFacts, CompletionOne, CompletedTwice, CompletionKept, OneNumber}
 use Rattle.theorems.proofs.Numbered.{one-number}
 
 pub least-has : LeastHas

@@ -1,29 +1,28 @@
 -- Closing comes to an end: the least sets and the completion of listed rows are lists.
 use mathlib.Core.Path.{_≡_, refl, sym, _∙_, ap, subst}
-use mathlib.Core.Bool.{Bool, true, false, not, cond, _&&_, _||_}
+use mathlib.Core.Bool.{Bool, true, false, cond, _&&_, _||_}
 use mathlib.Core.List.{List, [], _∷_, _++_}
-use mathlib.Core.Logic.{_↔_, _⊎_, inl, inr, ⊎-elim}
+use mathlib.Core.Logic.{_⊎_, inl, inr, ⊎-elim}
 use Prim.Native.Nat.{ℕ, zero, suc, _+_, _≤_, _<_}
 use native.Mathlib.Omega.{arith}
-use lib.Dec.{T, eqb}
-use Rattle.std.proofs.shelf.Tests.{and-parts, and-from, and-cases, or-cases, or-left, or-right, or-parts, cases-bool, cases-eq, eqb-true, cond-true, cond-false, cond-both, both-ways}
+use lib.Dec.{eqb}
+use Rattle.std.proofs.shelf.Tests.{and-parts, and-from, and-cases, or-cases, or-parts, cases-bool, cases-eq, eqb-true, cond-true, cond-false, cond-both, both-ways}
 use Rattle.rows.specs.declared.row.Row.{Row}
 use Rattle.rows.specs.Rows.{has}
 use Rattle.rows.specs.Relations.{row3}
 use Rattle.rows.proofs.Order.{fields-same}
 use Rattle.datalog.specs.Contents.{Content, Among, Least}
-use Rattle.datalog.specs.Datalog.{Premise, Clause, Rule, value, instance, AllMet, SomeGives, Proposes, least, complete, clauses-read, stratified}
+use Rattle.datalog.specs.Datalog.{Premise, Clause, Rule, value, instance, AllMet, SomeGives, least, complete, clauses-read, stratified}
 use Rattle.datalog.specs.Datalog.Premise.{holds, lacks, differ}
-use Rattle.datalog.proofs.Truths.{T-from, T-is, T-not, not-T, decide}
+use Rattle.datalog.proofs.Truths.{T-from, T-is, T-not}
 use Rattle.datalog.proofs.Engine.{Sub, has-here, has-there, has-cons, has-none, some-relation, complete-same}
 use Rattle.datalog.proofs.Complete.{strata}
 use Rattle.output.specs.Program.{find-rule, program, rule-of}
-use Rattle.output.specs.Completion.{Completed, Missing}
 use Rattle.output.proofs.Ruled.{program-stratified, rule-reads}
-use Rattle.theorems.specs.Numbers.{Lists, Distinct, Number}
+use Rattle.theorems.specs.Numbers.{Lists, Distinct}
 use Rattle.theorems.specs.Definitions.{LeastListed, CompletionListed, DerivedNumbered}
 use Rattle.theorems.proofs.Proposals.{has-left, has-right, proposals, proposals-from, stands, row-stands, all-stand, ranged}
-use Rattle.theorems.proofs.Runs.{within, within-has, add, add-in, add-keeps, close, closed, close-keeps, close-in, close-all, all-ranged}
+use Rattle.theorems.proofs.Runs.{within, add, add-in, add-keeps, close, closed, close-keeps, close-in, close-all, all-ranged}
 
 -- All rows of a relation with codes below w.
 abbrev line : ℕ → ℕ → ℕ → ℕ → List Row

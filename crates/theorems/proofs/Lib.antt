@@ -7,3 +7,5 @@ pub mod Proposals
 pub mod Runs
 pub mod Cases
 pub mod Exists
+pub mod Added
+pub mod Unique

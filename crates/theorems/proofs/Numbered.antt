@@ -1,8 +1,8 @@
 -- The number of rows of a content is one number.
-use mathlib.Core.Path.{_≡_, refl, sym, _∙_, ap, subst}
-use mathlib.Core.Bool.{Bool, true, false, cond}
+use mathlib.Core.Path.{_≡_, sym, _∙_, ap, subst}
+use mathlib.Core.Bool.{cond}
 use mathlib.Core.List.{List, [], _∷_}
-use mathlib.Core.Logic.{_≢_, _⊎_, inl, inr, ⊎-elim}
+use mathlib.Core.Logic.{_≢_, _⊎_, ⊎-elim}
 use Prim.Native.Nat.{ℕ, suc, _≤_}
 use native.Mathlib.Omega.{arith}
 use lib.ListN.{length}
@@ -12,7 +12,7 @@ use Rattle.rows.specs.Rows.{same}
 use Rattle.rows.proofs.Order.{same-is, same-refl}
 use Rattle.datalog.specs.Contents.{Content, Among}
 use Rattle.datalog.proofs.Engine.{Sub, has-here, has-there, has-cons, has-none}
-use Rattle.theorems.specs.Numbers.{Lists, Distinct, Number}
+use Rattle.theorems.specs.Numbers.{Distinct, Number}
 
 -- a list without one occurrence of a row
 abbrev remove : Row → List Row → List Row

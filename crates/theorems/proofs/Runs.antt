@@ -1,15 +1,14 @@
 -- Completions by computation: each relation closed in turn, with fuel.
-use mathlib.Core.Path.{_≡_, refl, sym, _∙_, ap, subst}
+use mathlib.Core.Path.{_≡_, subst}
 use mathlib.Core.Bool.{Bool, true, false, _&&_}
-use mathlib.Core.List.{List, [], _∷_, _++_}
+use mathlib.Core.List.{List, [], _∷_}
 use mathlib.Core.Logic.{_↔_}
 use Prim.Native.Nat.{ℕ, zero, suc}
-use lib.Dec.{T}
 use Rattle.std.proofs.shelf.Tests.{and-parts}
 use Rattle.rows.specs.declared.row.Row.{Row}
 use Rattle.rows.specs.Rows.{has}
 use Rattle.datalog.specs.Contents.{Content, Among, Least}
-use Rattle.datalog.specs.Datalog.{Rule, Proposes, least, complete}
+use Rattle.datalog.specs.Datalog.{Rule, least, complete}
 use Rattle.datalog.proofs.Truths.{T-from}
 use Rattle.datalog.proofs.Engine.{Sub, has-here, has-there, has-cons, has-none, least-inside, complete-same}
 use Rattle.theorems.proofs.Proposals.{proposals, proposals-from, proposals-has, ranged}

@@ -1,6 +1,6 @@
 -- Subset is the unrestricted least set with the rows of equal origins struck.
 use mathlib.Core.Path.{_≡_, refl, sym, subst}
-use mathlib.Core.Bool.{cond, true}
+use mathlib.Core.Bool.{cond}
 use mathlib.Core.List.{List, [], _∷_}
 use mathlib.Core.Logic.{_≢_, _⊎_, inl, inr}
 use Prim.Native.Nat.{ℕ}
@@ -10,7 +10,7 @@ use lib.Dec.{ltb, lit<}
 use Rattle.rows.specs.declared.row.Row.{Row}
 use Rattle.rows.specs.Relations.{cfg-edge, subset-base, origin-live-on-entry, subset}
 use Rattle.datalog.specs.Contents.{Content, Among, Least}
-use Rattle.datalog.specs.Datalog.{Rule, Proposes, least, complete, stratified}
+use Rattle.datalog.specs.Datalog.{Rule, Proposes, least, complete}
 use Rattle.datalog.proofs.Engine.{Sub, least-closed, least-inside, complete-keeps}
 use Rattle.datalog.proofs.Complete.{complete-below}
 use Rattle.output.specs.Variables.{Origin1, Origin2, Origin3, Point, Point1, Point2}

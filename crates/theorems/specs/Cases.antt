@@ -31,9 +31,8 @@ used-loan =
     use-of-var-derefs-origin 0 2 ∷
     []
 
-abbrev pub UsedLoan : Type 0
-UsedLoan =
-    Derives used-loan (
+abbrev pub used-loan-derived : List Row
+used-loan-derived =
     var-live-on-entry 0 0 ∷
     var-live-on-entry 0 1 ∷
     var-live-on-entry 0 2 ∷
@@ -56,7 +55,11 @@ UsedLoan =
     origin-contains-loan-anywhere 1 0 ∷
     origin-contains-loan-anywhere 2 0 ∷
     potential-errors 0 2 ∷
-    []) 22
+    []
+
+abbrev pub UsedLoan : Type 0
+UsedLoan =
+    Derives used-loan used-loan-derived 22
     × Tells used-loan 35 (errors 0 2 ∷ [])
     × Tells used-loan 38 (potential-errors 0 2 ∷ [])
 
@@ -64,9 +67,8 @@ UsedLoan =
 abbrev pub killed-loan : List Row
 killed-loan = loan-killed-at 0 0 ∷ used-loan
 
-abbrev pub KilledLoan : Type 0
-KilledLoan =
-    Derives killed-loan (
+abbrev pub killed-loan-derived : List Row
+killed-loan-derived =
     var-live-on-entry 0 0 ∷
     var-live-on-entry 0 1 ∷
     var-live-on-entry 0 2 ∷
@@ -84,7 +86,11 @@ KilledLoan =
     origin-contains-loan-anywhere 1 0 ∷
     origin-contains-loan-anywhere 2 0 ∷
     potential-errors 0 2 ∷
-    []) 17
+    []
+
+abbrev pub KilledLoan : Type 0
+KilledLoan =
+    Derives killed-loan killed-loan-derived 17
     × Tells killed-loan 35 []
     × Tells killed-loan 38 (potential-errors 0 2 ∷ [])
 

@@ -2,7 +2,7 @@
 use mathlib.Core.Path.{_≡_}
 use mathlib.Core.Bool.{Bool}
 use mathlib.Core.List.{List}
-use mathlib.Core.Logic.{_↔_}
+use mathlib.Core.Logic.{_↔_, _⊎_}
 use Prim.Native.Nat.{ℕ, _≤_, _<_}
 use lib.Dec.{T}
 use Rattle.rows.specs.declared.row.Row.{Row}
@@ -10,7 +10,7 @@ use Rattle.rows.specs.Rows.{insert}
 use Rattle.datalog.specs.Contents.{Among}
 use Rattle.datalog.specs.Datalog.{Rule, Proposes, least}
 use Rattle.output.specs.Program.{rule-of}
-use Rattle.output.specs.Completion.{Completed, Missing}
+use Rattle.output.specs.Completion.{Completed, Missing, Adds}
 use Rattle.theorems.specs.Numbers.{Lists, Number}
 
 -- A set, by its test, that has the rows; and one that has what a rule proposes over it, denials taken from the rows.
@@ -63,6 +63,24 @@ CompletionLeast = (rows : List Row) (k : ℕ) → 18 ≤ k → k < 40 → (set :
 abbrev pub CompletionFacts : Type 0
 CompletionFacts = (rows : List Row) (r : Row) → r .relation < 18 → Completed rows r → Among rows r
 
+-- A set that has the rows given, adds none to relations that have no rule, is closed under each rule, and of each derived
+-- relation has no more than any set that has what is given of it and what its rule proposes.
+pub record IsCompletion (rows : List Row) (set : Row → Bool) : Type 0 where
+  pub has : Has rows set
+  pub derived : (r : Row) → T (set r) → (r .relation < 18) ⊎ (40 ≤ r .relation) → Among rows r
+  pub closed : (k : ℕ) → 18 ≤ k → k < 40 → (r : Row) → Proposes (rule-of k) (λ s. T (set s)) (λ s. T (set s)) r → T (set r)
+  pub least : (k : ℕ) → 18 ≤ k → k < 40 → (other : Row → Bool)
+      → ((r : Row) → r .relation ≡ k → Among rows r → T (other r))
+      → ((r : Row) → Proposes (rule-of k) (λ s. T (set s) × (s .relation ≡ k → T (other s))) (λ s. T (set s)) r → T (other r))
+      → (r : Row) → r .relation ≡ k → T (set r) → T (other r)
+
+-- The completion is such a set, and the only one.
+abbrev pub CompletionIsOne : Type 0
+CompletionIsOne = (rows : List Row) (set : Row → Bool) → ((r : Row) → (Completed rows r ↔ T (set r))) → IsCompletion rows set
+
+abbrev pub CompletionUnique : Type 0
+CompletionUnique = (rows : List Row) (set : Row → Bool) → IsCompletion rows set → (r : Row) → (Completed rows r ↔ T (set r))
+
 -- It goes by which rows are given, and not by how they are listed.
 abbrev pub CompletionOne : Type 0
 CompletionOne = (rows others : List Row) → ((r : Row) → (Among rows r ↔ Among others r)) → (r : Row) → (Completed rows r ↔ Completed others r)
@@ -88,3 +106,8 @@ CompletionListed = (rows : List Row) → (whole : List Row) × Lists whole (Comp
 
 abbrev pub DerivedNumbered : Type 0
 DerivedNumbered = (rows : List Row) → (n : ℕ) × Number (Missing rows) n
+
+-- Where missing rows are added one after the other until none is missing, the number of additions is that of the derived rows.
+abbrev pub AdditionsNumber : Type 0
+AdditionsNumber = (n : ℕ) (before after : List Row) → Adds (λ rows. rows) (λ s r t. Unit {0}) n before after
+    → ((r : Row) → ¬ Missing after r) → Number (Missing before) n

@@ -2,7 +2,7 @@
 ghost use Rattle.theorems.specs.Compared.{LoanErrorsCompared, SubsetErrorsCompared};
 ghost use Rattle.theorems.specs.Restriction.{SubsetStruck};
 ghost use Rattle.theorems.specs.Cases.{UsedLoan, KilledLoan, MovedThenAccessed, MovedNotReached, ChildMoved, KnownSubset, UnknownSubset, NoPlaceholder, SharedPlaceholder, MutualSubset, RegionNowhere, RegionLive};
-ghost use Rattle.theorems.specs.Definitions.{LeastHas, LeastClosed, LeastBelow, LeastUnique, LeastIsLeast, CompletionHas, CompletionClosed, CompletionLeast, CompletionFacts, CompletionOne, CompletedTwice, CompletionKept, OneNumber, LeastListed, CompletionListed, DerivedNumbered};
+ghost use Rattle.theorems.specs.Definitions.{LeastHas, LeastClosed, LeastBelow, LeastUnique, LeastIsLeast, CompletionHas, CompletionClosed, CompletionLeast, CompletionFacts, CompletionIsOne, CompletionUnique, CompletionOne, CompletedTwice, CompletionKept, OneNumber, LeastListed, CompletionListed, DerivedNumbered, AdditionsNumber};
 
 // Every naive loan error is a location-insensitive one.
 pub fn loan_errors_compared() -> u8
@@ -37,13 +37,15 @@ pub fn least_sets() -> u8
     0
 }
 
-// The completion of any rows: it has them, is closed under each rule, adds no facts, has no more than it must, goes by which
-// rows they are, is complete itself, stays as it is when a row of it is added, and is finite.
+// The completion of any rows: it has them, is closed under each rule, adds no facts, has no more than it must, is the only
+// such set, goes by which rows they are, is complete itself, stays as it is when a row of it is added, and is finite.
 pub fn completions() -> u8
     ensures has { λ _. ⌜ CompletionHas ⌝ }
     ensures closed { λ _. ⌜ CompletionClosed ⌝ }
     ensures least { λ _. ⌜ CompletionLeast ⌝ }
     ensures facts { λ _. ⌜ CompletionFacts ⌝ }
+    ensures is_one { λ _. ⌜ CompletionIsOne ⌝ }
+    ensures unique { λ _. ⌜ CompletionUnique ⌝ }
     ensures one { λ _. ⌜ CompletionOne ⌝ }
     ensures twice { λ _. ⌜ CompletedTwice ⌝ }
     ensures kept { λ _. ⌜ CompletionKept ⌝ }
@@ -52,10 +54,11 @@ pub fn completions() -> u8
     0
 }
 
-// There is a number of derived rows, and it is one number.
+// There is a number of derived rows, it is one number, and as many are added until none is missing.
 pub fn derived_number() -> u8
     ensures some { λ _. ⌜ DerivedNumbered ⌝ }
     ensures one { λ _. ⌜ OneNumber ⌝ }
+    ensures added { λ _. ⌜ AdditionsNumber ⌝ }
 {
     0
 }

@@ -1,5 +1,6 @@
 use Rattle.theorems.proofs.Defined.{completion-has, completion-closed, completion-least, completion-facts, completion-one, completed-twice, completion-kept}
 use Rattle.theorems.proofs.Exists.{completion-listed}
+use Rattle.theorems.proofs.Unique.{completion-is-one, completion-unique}
 use Rattle.theorems.proofs.completions.Needs as need
 
 pub returns : need.returns
@@ -8,6 +9,8 @@ returns c = record {
   closed = completion-closed;
   least = completion-least;
   facts = completion-facts;
+  is-one = completion-is-one;
+  unique = completion-unique;
   one = completion-one;
   twice = completed-twice;
   kept = completion-kept;
