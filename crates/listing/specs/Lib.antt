@@ -2,3 +2,4 @@ pub mod Faults
 pub mod Loading
 pub mod Listing
 pub mod Text
+pub mod Dumps

@@ -9,6 +9,7 @@ ghost use Rattle.std.specs.Results.{Cases};
 ghost use Rattle.std.specs.Vec.{made};
 ghost use Rattle.std.specs.declared.result.Result.the-variants.{Ok, Err};
 ghost use Rattle.listing.specs.Listing.{most, Lists, Listing};
+ghost use Rattle.listing.specs.Dumps.{Dumped};
 ghost use Rattle.listing.specs.Text.{fault-words};
 use crate::derive::derive;
 use crate::derive::derived_rows;
@@ -43,7 +44,9 @@ pub fn dump_input<R: Read + Drop>(heap: Global, input: R) -> Result<String, Allo
 }
 
 // The listing of a facts file. Only want of memory is an error: any other refusal is a line of text.
-pub fn dump(heap: Global, bytes: &[u8]) -> Result<String, AllocError> {
+pub fn dump(heap: Global, bytes: &[u8]) -> Result<String, AllocError>
+    ensures { λ r. ⌜ made r (λ s. Dumped (now (bytes .entry)) (string-bytes s)) ⌝ }
+{
     match dump_rows(heap, bytes) {
         Ok(rows) => lines(heap, rows.as_slice()),
         Err(fault) => refusal(heap, fault),

@@ -104,12 +104,16 @@ fn tell_relations<T: Table>(
     t: &mut T,
 ) -> Result<(), ListingFault> {
     text.push_str("\nThe derived relations, each closed under its rule after those before it:\n")?;
+    let mut added = 0u32;
     for relation in FIRST_DERIVED..RELATIONS {
         match close_relation(relation, t, u32::MAX) {
+            // The budget is larger than any list, so it is never spent.
             Closed::Finished(n) | Closed::Spent(n) => {
+                added = added.saturating_add(n);
                 text.push_str(closed_line(heap, relation, n)?.as_str())?;
             }
-            Closed::Refused(added, fault) => {
+            Closed::Refused(n, fault) => {
+                added = added.saturating_add(n);
                 return Err(ListingFault::from(Stop {
                     relation,
                     added,
