@@ -11,7 +11,7 @@ use Rattle.datalog.proofs.Truths.{decide}
 use Rattle.datalog.proofs.Engine.{has-here, has-there, has-cons, has-none, complete-keeps}
 use Rattle.datalog.proofs.Closes.{insert-cases, insert-keeps, insert-here}
 use Rattle.output.specs.Program.{program}
-use Rattle.output.specs.Completion.{Completed, Missing, Adds}
+use Rattle.output.specs.Completion.{Missing, Adds}
 use Rattle.output.proofs.Completing.{adds-completed}
 use Rattle.theorems.specs.Numbers.{Distinct, Number}
 use Rattle.theorems.specs.Definitions.{AdditionsNumber}

@@ -2,7 +2,7 @@
 use mathlib.Core.Path.{_≡_, refl, subst}
 use mathlib.Core.Bool.{Bool, true}
 use mathlib.Core.List.{List, [], _∷_}
-use mathlib.Core.Logic.{_↔_, _≢_, _⊎_, inl, inr, ⊎-elim}
+use mathlib.Core.Logic.{_↔_, _⊎_, inl, inr, ⊎-elim}
 use Prim.Native.Nat.{ℕ, zero, suc, _+_, _≤_, _<_}
 use native.Mathlib.Omega.{arith}
 use lib.Dec.{T, eqb}
@@ -11,7 +11,7 @@ use Rattle.std.proofs.shelf.Tests.{and-parts, eqb-true, cases-lt, cases-eq}
 use Rattle.rows.specs.declared.row.Row.{Row}
 use Rattle.rows.specs.Rows.{has}
 use Rattle.datalog.specs.Contents.{Content, Among}
-use Rattle.datalog.specs.Datalog.{Rule, Proposes, least, complete, stratified}
+use Rattle.datalog.specs.Datalog.{Rule, least, complete, stratified}
 use Rattle.datalog.proofs.Engine.{some-local, some-mono}
 use Rattle.datalog.proofs.Complete.{strata, least-other}
 use Rattle.output.specs.Program.{program, rule-of}
