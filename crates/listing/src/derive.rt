@@ -17,7 +17,7 @@ use table::Table;
 
 // Completes a table, and answers how many rows were added. The table has less room than the largest budget, so that this is
 // never spent.
-pub fn derive<T: Table>(t: &mut T) -> Result<u32, Stop>
+pub(crate) fn derive<T: Table>(t: &mut T) -> Result<u32, Stop>
     requires { ⌜ T·Table .bounds (now t) .total < most ⌝ }
     ensures { λ r. ⌜ Completing (T·Table .rows) (T·Table .bounds) (T·Table .grew) most (now (t .entry)) (unspent r) (now (t .exit)) ⌝ }
 {

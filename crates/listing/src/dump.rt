@@ -77,7 +77,7 @@ fn dump_rows(heap: Global, bytes: &[u8]) -> Result<Vec<Row>, ListingFault>
 }
 
 // The derived rows of a facts file, on any table.
-pub fn rows_of<T: Table>(heap: Global, t: &mut T, bytes: &[u8]) -> Result<Vec<Row>, ListingFault>
+pub(crate) fn rows_of<T: Table>(heap: Global, t: &mut T, bytes: &[u8]) -> Result<Vec<Row>, ListingFault>
     requires { ⌜ T·Table .bounds (now t) .total < most ⌝ }
     ensures does { λ r. ⌜ Cases r (λ v. Listing (T·Table .rows) (T·Table .bounds) (T·Table .grew) (now (bytes .entry)) (now (t .entry)) (Ok (vec-items v)) (now (t .exit))) (λ e. Listing (T·Table .rows) (T·Table .bounds) (T·Table .grew) (now (bytes .entry)) (now (t .entry)) (Err e) (now (t .exit))) ⌝ }
     ensures lists { λ r. ⌜ (T·Table .rows (now (t .entry)) ≡ [] → made r (λ v. Lists (now (bytes .entry)) (vec-items v))) ⌝ }
