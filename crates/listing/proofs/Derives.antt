@@ -3,7 +3,7 @@ use mathlib.Core.Path.{_≡_, refl, sym, ap, subst, _∙_}
 use mathlib.Core.List.{List, [], _∷_}
 use mathlib.Core.Logic.{_⊎_, inl, inr, ⊎-elim, _↔_}
 use mathlib.Core.Bool.{Bool, true, false, cond, _||_}
-use Prim.Native.Nat.{ℕ, suc, _+_, _≤_, _<_}
+use Prim.Native.Nat.{ℕ, suc, _+_, _-_, _≤_, _<_}
 use native.Mathlib.Nat.{add-zero}
 use native.Mathlib.Omega.{arith}
 use lib.Dec.{T}
@@ -44,6 +44,15 @@ module _ {S : Type 0} (rows : S → List Row) (bounds : S → Limits) (grew : S 
   adds-length {s = s} Adds.none = sym (add-zero (length (rows s)))
   adds-length (Adds.more {t = t} r a miss full is grown) =
       omega (arith, ap length is, length-insert r (rows t) (not-T (has (rows t) r) (miss .1)), adds-length a)
+
+  -- a budget that is spent leaves less room
+  pub less-room : (budget : ℕ) (s t : S) (p : Progress) → 0 < budget → Lawful (bounds t) (rows t) → bounds t ≡ bounds s
+      → Completing rows bounds grew budget s (Ok p) t → ((n : ℕ) → p ≡ Finished n → ⊥)
+      → bounds t .total - length (rows t) < bounds s .total - length (rows s)
+  less-room budget s t (Finished n) pos law kept h not = absurd (not n refl)
+  less-room budget s t (Spent n) pos law kept h not =
+      let k = adds-length (h .1) in
+      omega (arith, h .0, law .few, ap (λ m. m .total) kept, k)
 
   -- the largest budget is more than a table holds
   pub not-spent : (s t : S) (p : Progress) (n : ℕ) → Lawful (bounds t) (rows t) → bounds t ≡ bounds s → bounds s .total < most

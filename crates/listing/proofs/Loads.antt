@@ -32,7 +32,7 @@ use Rattle.facts.specs.declared.record.Record.{Record}
 use Rattle.facts.specs.declared.record.ReadFault.{ReadFault}
 use Rattle.facts.specs.Format.{marks, mark, bytes-of, codes-of, written, Fact, file, Answered}
 use Rattle.listing.specs.declared.fault.ListingFault.{ListingFault}
-use Rattle.listing.specs.declared.fault.ListingFault.the-variants.{Input, Opening, Reading, Adding, Deriving, NoMemory}
+use Rattle.listing.specs.declared.fault.ListingFault.the-variants.{Input, Opening, Reading, Adding, Deriving, Putting, Running, NoMemory}
 use Rattle.listing.specs.declared.load.Loaded.{Loaded}
 use Rattle.listing.specs.Loading.{Step, Took, Loading}
 
@@ -165,6 +165,8 @@ module _ {S : Type 0} (rows : S → List Row) (bounds : S → Limits) (grew : S 
   loaded-part bytes s n at at′ left left′ t u Input b h = absurd h
   loaded-part bytes s n at at′ left left′ t u (Opening fault) b h = absurd h
   loaded-part bytes s n at at′ left left′ t u (Deriving stop) b h = absurd h
+  loaded-part bytes s n at at′ left left′ t u (Putting offset fault) b h = absurd h
+  loaded-part bytes s n at at′ left left′ t u (Running fault) b h = absurd h
   loaded-part bytes s n at at′ left left′ t u NoMemory b h = absurd h
 
   -- what is left gets shorter

@@ -17,7 +17,7 @@ use Rattle.output.specs.declared.progress.Stop.{Stop}
 use Rattle.output.specs.Completion.{Completed}
 use Rattle.output.specs.Progressing.{Completing}
 use Rattle.listing.specs.declared.fault.ListingFault.{ListingFault}
-use Rattle.listing.specs.declared.fault.ListingFault.the-variants.{Input, Opening, Reading, Adding, Deriving, NoMemory}
+use Rattle.listing.specs.declared.fault.ListingFault.the-variants.{Input, Opening, Reading, Adding, Deriving, Putting, Running, NoMemory}
 use Rattle.listing.specs.Loading.{Loading}
 
 -- The largest budget.
@@ -54,6 +54,8 @@ module _ {S : Type 0} (rows : S → List Row) (bounds : S → Limits) (grew : S 
       (t : S)
       × ((n : ℕ)
       × (Loading rows bounds grew bytes s (Ok n) t × Completing rows bounds grew most t (Err stop) u))
+  Listing bytes s (Err (Putting offset fault)) u = ⊥
+  Listing bytes s (Err (Running fault)) u = ⊥
   Listing bytes s (Err NoMemory) u = Unit {0}
   Listing bytes s (Err Input) u = ⊥
   Listing bytes s (Err (Opening fault)) u = ⊥

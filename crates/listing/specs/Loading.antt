@@ -18,7 +18,7 @@ use Rattle.rows.specs.Adding.{Filled, taken}
 use Rattle.facts.specs.declared.record.Record.{Record}
 use Rattle.facts.specs.Format.{Fact, file, written, Refused, fault-offset, Answered}
 use Rattle.listing.specs.declared.fault.ListingFault.{ListingFault}
-use Rattle.listing.specs.declared.fault.ListingFault.the-variants.{Input, Opening, Reading, Adding, Deriving, NoMemory}
+use Rattle.listing.specs.declared.fault.ListingFault.the-variants.{Input, Opening, Reading, Adding, Deriving, Putting, Running, NoMemory}
 use Rattle.listing.specs.declared.load.Loaded.{Loaded}
 
 module _ {S : Type 0} (rows : S → List Row) (bounds : S → Limits) (grew : S → Row → S → Type 0) where
@@ -40,6 +40,8 @@ module _ {S : Type 0} (rows : S → List Row) (bounds : S → Limits) (grew : S 
   Step at bytes s (Err Input) at′ bytes′ t = ⊥
   Step at bytes s (Err (Opening fault)) at′ bytes′ t = ⊥
   Step at bytes s (Err (Deriving stop)) at′ bytes′ t = ⊥
+  Step at bytes s (Err (Putting offset fault)) at′ bytes′ t = ⊥
+  Step at bytes s (Err (Running fault)) at′ bytes′ t = ⊥
   Step at bytes s (Err NoMemory) at′ bytes′ t = ⊥
 
   -- A table s became t as some facts were added in turn, and none of them was refused.
@@ -69,4 +71,6 @@ module _ {S : Type 0} (rows : S → List Row) (bounds : S → Limits) (grew : S 
   Loading bytes s (Err Input) t = ⊥
   Loading bytes s (Err (Opening fault)) t = ⊥
   Loading bytes s (Err (Deriving stop)) t = ⊥
+  Loading bytes s (Err (Putting offset fault)) t = ⊥
+  Loading bytes s (Err (Running fault)) t = ⊥
   Loading bytes s (Err NoMemory) t = ⊥

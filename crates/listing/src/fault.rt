@@ -1,9 +1,11 @@
 // Why a listing cannot be made.
 ghost use mathlib.Core.Path.{_≡_};
-ghost use Rattle.listing.specs.declared.fault.ListingFault.the-variants.{Opening, Reading, Deriving, NoMemory};
+ghost use Rattle.listing.specs.declared.fault.ListingFault.the-variants.{Opening, Reading, Deriving, Running, NoMemory};
 ghost use Rattle.std.specs.declared.option.Option.the-variants.{Some};
 ghost use Rattle.listing.specs.Faults.{listing-number};
 ghost use Rattle.listing.specs.Text.{fault-words};
+use analysis::fault::RunFault;
+use analysis::state::Unfinished;
 use facts::record::ReadFault;
 use output::progress::Stop;
 use rows::answer::OpenFault;
@@ -24,6 +26,10 @@ pub enum ListingFault {
     Adding { offset: usize, fault: TableFault },
     // The table refused a derived row.
     Deriving(Stop),
+    // The run refused the fact whose record stands at the offset.
+    Putting { offset: usize, fault: RunFault },
+    // The run refused another call.
+    Running(RunFault),
     // There is no memory. This is no refusal, and has no number.
     NoMemory,
 }
@@ -39,6 +45,8 @@ impl ListingFault {
             ListingFault::Reading(fault) => Some(fault.number()),
             ListingFault::Adding { offset: _, fault } => Some(fault.number()),
             ListingFault::Deriving(stop) => Some(stop.fault.number()),
+            ListingFault::Putting { offset: _, fault } => Some(fault.number()),
+            ListingFault::Running(fault) => Some(fault.number()),
             ListingFault::NoMemory => None,
         }
     }
@@ -65,6 +73,22 @@ pub impl From<Stop> for ListingFault as ListingFaultFromStop {
 
     fn from(stop: Stop) -> ListingFault {
         ListingFault::Deriving(stop)
+    }
+}
+
+pub impl From<RunFault> for ListingFault as ListingFaultFromRun {
+    ghost converts = { λ x r. r ≡ Running x };
+
+    fn from(fault: RunFault) -> ListingFault {
+        ListingFault::Running(fault)
+    }
+}
+
+pub impl From<Unfinished> for ListingFault as ListingFaultFromUnfinished {
+    ghost converts = { λ x r. r ≡ Running (x .fault) };
+
+    fn from(unfinished: Unfinished) -> ListingFault {
+        ListingFault::Running(unfinished.fault)
     }
 }
 
@@ -102,9 +126,15 @@ pub impl fmt::Display for ListingFault as ListingFaultDisplay {
                 let relation = stop.relation;
                 write!(f, "refused {number} in {relation}")
             }
-            ListingFault::Input | ListingFault::Opening(_) | ListingFault::NoMemory => {
-                write!(f, "refused {number}")
+            ListingFault::Putting { offset, fault: _ } => write!(f, "refused {number} at {offset}"),
+            ListingFault::Running(RunFault::Stopped(stop)) => {
+                let relation = stop.relation;
+                write!(f, "refused {number} in {relation}")
             }
+            ListingFault::Running(_)
+            | ListingFault::Input
+            | ListingFault::Opening(_)
+            | ListingFault::NoMemory => write!(f, "refused {number}"),
         }
     }
 }

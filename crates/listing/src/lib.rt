@@ -5,5 +5,6 @@ pub mod fault;
 pub mod input;
 pub mod lines;
 pub mod load;
+pub mod reading;
 pub mod walk;
 mod words;
