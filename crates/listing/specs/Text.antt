@@ -11,7 +11,7 @@ use Rattle.analysis.specs.declared.fault.RunFault.{RunFault}
 use Rattle.analysis.specs.declared.fault.RunFault.the-variants.{NotEmpty, NotFact, RowsMissing, Refused, Stopped}
 use Rattle.analysis.specs.Faults as run
 use Rattle.listing.specs.declared.fault.ListingFault.{ListingFault}
-use Rattle.listing.specs.declared.fault.ListingFault.the-variants.{Input, Opening, Reading, Adding, Deriving, Putting, Running, NoMemory}
+use Rattle.listing.specs.declared.fault.ListingFault.the-variants.{Input, Opening, Reading, Putting, Running, NoMemory}
 
 -- numbers in decimal, a blank before each, to the end of the line
 abbrev pub blanks : List ℕ → List ℕ
@@ -39,8 +39,6 @@ abbrev pub fault-words : ListingFault → List ℕ
 fault-words Input = codes "refused " ++ decimal 12
 fault-words (Opening fault) = codes "refused " ++ decimal (open-number fault)
 fault-words (Reading fault) = codes "refused " ++ (decimal (fault-number fault) ++ (codes " at " ++ decimal (fault-offset fault)))
-fault-words (Adding offset fault) = codes "refused " ++ (decimal (number fault) ++ (codes " at " ++ decimal offset))
-fault-words (Deriving stop) = codes "refused " ++ (decimal (number (stop .fault)) ++ (codes " in " ++ decimal (stop .relation)))
 fault-words (Putting offset fault) = codes "refused " ++ (decimal (run.number fault) ++ (codes " at " ++ decimal offset))
 fault-words (Running fault) = run-words fault
 fault-words NoMemory = codes "no memory"

@@ -6,11 +6,12 @@ use crate::fault::ListingFault;
 use crate::fault::ListingFaultDisplay;
 use crate::fault::ListingFaultFromAlloc;
 use crate::fault::ListingFaultFromOpen;
-use crate::fault::ListingFaultFromRead;
 use crate::fault::ListingFaultFromRun;
 use crate::fault::ListingFaultFromUnfinished;
 use crate::input::MOST_BYTES;
 use crate::input::read_input;
+use crate::load::Loaded;
+use crate::load::load_next;
 use crate::reading::read_derived;
 use crate::words::Named;
 use crate::words::NamedDisplay;
@@ -20,7 +21,6 @@ use analysis::begin::begin;
 use analysis::state::Filling;
 use analysis::state::Running;
 use facts::reader::Reader;
-use facts::record::Record;
 use list::List;
 use list::ListTable;
 use output::progress::Progress;
@@ -89,25 +89,19 @@ fn tell_facts<T: Table>(
 ) -> Result<(), ListingFault> {
     text.push_str("The facts, each read from its offset in the file and put into the table:\n")?;
     let mut reader = Reader::new(bytes);
-    while let Some(record) = reader.next_record()? {
-        match filling.put(t, record.row) {
-            Ok(outcome) => text.push_str(fact_line(heap, record, outcome)?.as_str())?,
-            Err(fault) => {
-                let offset = record.offset;
-                return Err(ListingFault::Putting { offset, fault });
-            }
-        }
+    while let Some(loaded) = load_next(filling, &mut reader, t)? {
+        text.push_str(fact_line(heap, loaded)?.as_str())?;
     }
     let count = (*t).count();
     text.push_str(format!(heap, "The table holds {count} facts.\n")?.as_str())?;
     Ok(())
 }
 
-fn fact_line(heap: Global, record: Record, outcome: Outcome) -> Result<String, AllocError> {
-    let offset = record.offset;
-    let mark = mark_of(record.row.relation);
-    let row = Named(record.row);
-    let answer = match outcome {
+fn fact_line(heap: Global, loaded: Loaded) -> Result<String, AllocError> {
+    let offset = loaded.record.offset;
+    let mark = mark_of(loaded.record.row.relation);
+    let row = Named(loaded.record.row);
+    let answer = match loaded.outcome {
         Outcome::Added => "added",
         Outcome::Held => "held already",
     };
