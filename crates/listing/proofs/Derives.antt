@@ -3,7 +3,7 @@ use mathlib.Core.Path.{_≡_, refl, sym, ap, subst, _∙_}
 use mathlib.Core.List.{List, [], _∷_}
 use mathlib.Core.Logic.{_⊎_, inl, inr, ⊎-elim, _↔_}
 use mathlib.Core.Bool.{Bool, true, false, cond, _||_}
-use Prim.Native.Nat.{ℕ, suc, _+_, _≤_, _<_}
+use Prim.Native.Nat.{ℕ, suc, _+_, _-_, _≤_, _<_}
 use native.Mathlib.Nat.{add-zero}
 use native.Mathlib.Omega.{arith}
 use lib.Dec.{T}
@@ -30,8 +30,12 @@ use Rattle.output.specs.declared.progress.Progress.{Progress}
 use Rattle.output.specs.declared.progress.Progress.the-variants.{Finished, Spent}
 use Rattle.output.proofs.Completing.{adds-completed}
 use Rattle.facts.specs.Format.{Fact, file}
+use Rattle.analysis.specs.declared.fault.RunFault.{RunFault}
+use Rattle.analysis.specs.declared.fault.RunFault.the-variants.{NotEmpty, NotFact, RowsMissing, Refused, Stopped}
+use Rattle.analysis.specs.declared.state.Filling.{Filling}
+use Rattle.analysis.specs.Calls.{begun, Stopping}
 use Rattle.listing.specs.Loading.{Took, Loading}
-use Rattle.listing.specs.Listing.{most, DerivedRows, Lists, Listing}
+use Rattle.listing.specs.Listing.{most, DerivedRows, Lists, Refusing, Listing}
 
 -- in a list with a row in front
 module _ (x : Row) (xs : List Row) (r : Row) where
@@ -44,6 +48,15 @@ module _ {S : Type 0} (rows : S → List Row) (bounds : S → Limits) (grew : S 
   adds-length {s = s} Adds.none = sym (add-zero (length (rows s)))
   adds-length (Adds.more {t = t} r a miss full is grown) =
       omega (arith, ap length is, length-insert r (rows t) (not-T (has (rows t) r) (miss .1)), adds-length a)
+
+  -- a budget that is spent leaves less room
+  pub less-room : (budget : ℕ) (s t : S) (p : Progress) → 0 < budget → Lawful (bounds t) (rows t) → bounds t ≡ bounds s
+      → Completing rows bounds grew budget s (Ok p) t → ((n : ℕ) → p ≡ Finished n → ⊥)
+      → bounds t .total - length (rows t) < bounds s .total - length (rows s)
+  less-room budget s t (Finished n) pos law kept h not = absurd (not n refl)
+  less-room budget s t (Spent n) pos law kept h not =
+      let k = adds-length (h .1) in
+      omega (arith, h .0, law .few, ap (λ m. m .total) kept, k)
 
   -- the largest budget is more than a table holds
   pub not-spent : (s t : S) (p : Progress) (n : ℕ) → Lawful (bounds t) (rows t) → bounds t ≡ bounds s → bounds s .total < most
@@ -131,13 +144,14 @@ module _ {S : Type 0} (rows : S → List Row) (bounds : S → Limits) (grew : S 
     all-facts : Sub (Among facts) (Among (rows t))
     all-facts r i = T-from (has (rows t) r) (all-has (λ q. has (rows t) q ≡ true) facts r (took .held) (T-is (has facts r) i))
 
-  pub lists : (bytes : List ℕ) (s u : S) (found : List Row) → rows s ≡ [] → Lawful (bounds u) (rows u)
+  pub lists : (bytes : List ℕ) (s u : S) (found : List Row) → Lawful (bounds u) (rows u)
       → Listing rows bounds grew bytes s (Ok found) u → Lists bytes found
-  lists bytes s u found empty law h =
+  lists bytes s u found law h =
       let t = h .0 in
       let l = h .1 .1 .1 .0 in
       let d = h .1 .1 .1 .1 in
       let is = h .1 .1 .1 .2 in
+      let empty = h .1 .1 .1 .3 in
       let facts = l .0 in
       let took = l .1 .0 in
       let w = adds-completed rows grew (d .1) in
@@ -164,3 +178,18 @@ module _ {S : Type 0} (rows : S → List Row) (bounds : S → Limits) (grew : S 
           },
         ),
       )
+
+-- A run begins on an empty table, and on no other.
+
+pub began : (xs : List Row) (f : Filling) → Ok f ≡ begun xs → xs ≡ []
+began [] f e = refl
+began (x ∷ xs) f e = absurd (let z : _≡_ {A = ℕ} 0 1 = cc in omega arith)
+
+module _ {S : Type 0} (rows : S → List Row) (bounds : S → Limits) (grew : S → Row → S → Type 0) (bytes : List ℕ) where
+  -- an advance is refused by the table alone
+  pub not-derived : (s t u : S) (n : ℕ) (f : RunFault) → Loading rows bounds grew bytes s (Ok n) t → Stopping rows bounds grew most t f u → Refusing rows bounds grew bytes s f u
+  not-derived s t u n NotEmpty l h = absurd h
+  not-derived s t u n NotFact l h = absurd h
+  not-derived s t u n RowsMissing l h = absurd h
+  not-derived s t u n (Refused refusal) l h = absurd h
+  not-derived s t u n (Stopped stop) l h = (t, (n, (l, h)))

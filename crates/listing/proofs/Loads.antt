@@ -6,7 +6,7 @@ use mathlib.Core.Bool.{Bool, true, false, cond, _&&_, _||_}
 use Prim.Native.Nat.{ℕ, zero, suc, _+_, _≤_, _<_}
 use native.Mathlib.Nat.{eq-or-lt-of-le, le-of-suc-le-suc, not-suc-le-zero, add-zero}
 use native.Mathlib.Omega.{arith}
-use lib.Dec.{eqb, leb}
+use lib.Dec.{eqb, leb, ltb}
 use borrow.Author.Tests.{eqb-true}
 use lib.ListN.{length, length-append}
 use Rattle.std.specs.shelf.Lists.{All}
@@ -23,6 +23,7 @@ use Rattle.rows.specs.declared.answer.Outcome.{Outcome}
 use Rattle.rows.specs.declared.answer.Outcome.the-variants.{Held, Added}
 use Rattle.rows.specs.declared.answer.TableFault.{TableFault}
 use Rattle.rows.specs.Rows.{has, same, insert}
+use Rattle.rows.specs.Changes.{Changed}
 use Rattle.rows.specs.Tables.{add-answer, rows-after}
 use Rattle.rows.specs.Adding.{Filled, taken, joined, went-in}
 use Rattle.rows.proofs.Sets.{has-insert}
@@ -31,10 +32,13 @@ use Rattle.rows.proofs.Addings.{filled-none, filled-more, taken-counts}
 use Rattle.facts.specs.declared.record.Record.{Record}
 use Rattle.facts.specs.declared.record.ReadFault.{ReadFault}
 use Rattle.facts.specs.Format.{marks, mark, bytes-of, codes-of, written, Fact, file, Answered}
+use Rattle.analysis.specs.declared.fault.RunFault.the-variants as run
+use Rattle.analysis.specs.Calls as calls
+use Rattle.analysis.specs.Calls.{passed, put-answer}
 use Rattle.listing.specs.declared.fault.ListingFault.{ListingFault}
-use Rattle.listing.specs.declared.fault.ListingFault.the-variants.{Input, Opening, Reading, Adding, Deriving, NoMemory}
+use Rattle.listing.specs.declared.fault.ListingFault.the-variants.{Input, Opening, Reading, Putting, Running, NoMemory}
 use Rattle.listing.specs.declared.load.Loaded.{Loaded}
-use Rattle.listing.specs.Loading.{Step, Took, Loading}
+use Rattle.listing.specs.Loading.{RefusedBy, Step, Took, Loading}
 
 -- a record is not empty: a mark has two letters, as antt computes of all eighteen
 
@@ -78,6 +82,35 @@ pub still-held : (xs : List Row) (r q : Row) (o : Outcome) → has xs q ≡ true
 unfolding rows-after
 still-held xs r q Held h = h
 still-held xs r q Added h = has-insert r q xs ∙ or-true (same r q) (has xs q) h
+
+-- the put of a fact answers what the table's add does
+
+gate : (k : ℕ) → k < 18 → ltb 17 k ≡ false
+gate k h = grind (arith, tells)
+
+passed-ok : (n : ℕ) (a : Result Outcome TableFault) (o : Outcome) → Ok o ≡ passed n a → Ok o ≡ a
+passed-ok n (Ok p) o e = let i : o ≡ p = cc in ap Ok i
+passed-ok n (Err x) o e = absurd (let z : _≡_ {A = ℕ} 0 1 = cc in omega arith)
+
+module _ {S : Type 0} (rows : S → List Row) (bounds : S → Limits) (grew : S → Row → S → Type 0) (s t : S) (n n′ : ℕ) (r : Row) (fact : r .relation < 18) where
+  as-table : put-answer (bounds s) (rows s) n r ≡ passed n (add-answer (bounds s) (rows s) r)
+  as-table = ap (λ b. cond b (Err run.NotFact) (passed n (add-answer (bounds s) (rows s) r))) (gate (r .relation) fact)
+
+  pub put-took : (o : Outcome) → calls.Putting rows bounds grew s n r (Ok o) t n′
+      → (Ok o ≡ add-answer (bounds s) (rows s) r) × (rows t ≡ rows-after (rows s) r (Ok o)) × (bounds t ≡ bounds s) × Changed grew s r (Ok o) t
+  unfolding rows-after
+  put-took Held h = (passed-ok n _ Held (h .answer ∙ as-table), h .after, h .kept, h .changed)
+  put-took Added h = (passed-ok n _ Added (h .answer ∙ as-table), h .after, h .kept, h .changed)
+
+module _ {S : Type 0} (rows : S → List Row) (bounds : S → Limits) (grew : S → Row → S → Type 0) where
+  -- a record that is read and put
+  pub step-took : (at at′ : ℕ) (left left′ : List ℕ) (s t : S) (n n′ : ℕ) (o : Option Record) (x : Record) (k : Outcome)
+      → Answered at left (Ok o) at′ left′ → o ≡ Some x → calls.Putting rows bounds grew s n (x .row) (Ok k) t n′
+      → Answered at left (Ok (Some x)) at′ left′ × (Ok k ≡ add-answer (bounds s) (rows s) (x .row)) × (rows t ≡ rows-after (rows s) (x .row) (Ok k))
+      × (bounds t ≡ bounds s) × Changed grew s (x .row) (Ok k) t
+  step-took at at′ left left′ s t n n′ o x k a is h =
+      let b : Answered at left (Ok (Some x)) at′ left′ = subst (λ p. Answered at left (Ok p) at′ left′) is a in
+      let p = put-took rows bounds grew s t n n′ (x .row) (b .1 .0) k h in (b, p .0, p .1, p .2, p .3)
 
 module _ {S : Type 0} (rows : S → List Row) (bounds : S → Limits) (grew : S → Row → S → Type 0) where
   -- The table took some facts, whose file stood before the offset; the rest is still to come.
@@ -143,7 +176,7 @@ module _ {S : Type 0} (rows : S → List Row) (bounds : S → Limits) (grew : S 
       → Reached bytes s n at left t → Step rows bounds grew at left t (Err fault) at′ left′ u → Loading rows bounds grew bytes s (Err fault) u
   loaded-part bytes s n at at′ left left′ t u (Reading fault) b h =
       (b .facts, (left, (subst (λ v. Took rows bounds grew s (b .facts) v) (sym (h .1)) (b .took), b .first, h .0 .0 ∙ b .long, h .0 .1)))
-  loaded-part bytes s n at at′ left left′ t u (Adding offset fault) b h =
+  loaded-part bytes s n at at′ left left′ t u (Putting offset fault) b h =
       let r = h .0 in
       let a = h .1 .0 in
       let e = h .1 .2 in (
@@ -157,14 +190,14 @@ module _ {S : Type 0} (rows : S → List Row) (bounds : S → Limits) (grew : S 
               a .1,
               b .first ∙ ap (λ z. file (b .facts) ++ z) (a .2),
               a .0 ∙ b .long,
-              ap (λ v. add-answer (bounds v) (rows v) r) e ∙ sym (h .1 .1),
+              subst (λ v. RefusedBy (add-answer (bounds v) (rows v) r) fault) (sym e) (h .1 .1),
             ),
           ),
         ),
       )
   loaded-part bytes s n at at′ left left′ t u Input b h = absurd h
   loaded-part bytes s n at at′ left left′ t u (Opening fault) b h = absurd h
-  loaded-part bytes s n at at′ left left′ t u (Deriving stop) b h = absurd h
+  loaded-part bytes s n at at′ left left′ t u (Running fault) b h = absurd h
   loaded-part bytes s n at at′ left left′ t u NoMemory b h = absurd h
 
   -- what is left gets shorter

@@ -1,6 +1,6 @@
 -- The derived rows of a facts file.
 use mathlib.Core.Path.{_≡_}
-use mathlib.Core.List.{List}
+use mathlib.Core.List.{List, []}
 use mathlib.Core.Bool.{true}
 use mathlib.Core.Logic.{_↔_}
 use Prim.Native.Nat.{ℕ, _≤_}
@@ -13,11 +13,12 @@ use Rattle.rows.specs.Rows.{has, Asc, rest, start}
 use Rattle.facts.specs.Format.{Fact, file}
 use Rattle.output.specs.declared.progress.Progress.{Progress}
 use Rattle.output.specs.declared.progress.Progress.the-variants.{Finished}
-use Rattle.output.specs.declared.progress.Stop.{Stop}
 use Rattle.output.specs.Completion.{Completed}
 use Rattle.output.specs.Progressing.{Completing}
+use Rattle.analysis.specs.declared.fault.RunFault.{RunFault}
+use Rattle.analysis.specs.declared.fault.RunFault.the-variants.{NotEmpty, NotFact, RowsMissing, Refused, Stopped}
 use Rattle.listing.specs.declared.fault.ListingFault.{ListingFault}
-use Rattle.listing.specs.declared.fault.ListingFault.the-variants.{Input, Opening, Reading, Adding, Deriving, NoMemory}
+use Rattle.listing.specs.declared.fault.ListingFault.the-variants.{Input, Opening, Reading, Putting, Running, NoMemory}
 use Rattle.listing.specs.Loading.{Loading}
 
 -- The largest budget.
@@ -25,9 +26,9 @@ abbrev pub most : ℕ
 most = 4294967295
 
 -- A completion that no budget stopped.
-abbrev pub unspent : Result ℕ Stop → Result Progress Stop
+abbrev pub unspent : Result ℕ RunFault → Result Progress RunFault
 unspent (Ok n) = Ok (Finished n)
-unspent (Err stop) = Err stop
+unspent (Err fault) = Err fault
 
 -- The derived rows of some facts: those of the facts' completion that are of derived relations, ascending.
 pub record DerivedRows (facts found : List Row) : Type 0 where
@@ -39,21 +40,30 @@ abbrev pub Lists : List ℕ → List Row → Type 0
 Lists bytes found = (facts : List Row) × (All Fact facts × (bytes ≡ file facts) × DerivedRows facts found)
 
 module _ {S : Type 0} (rows : S → List Row) (bounds : S → Limits) (grew : S → Row → S → Type 0) where
-  -- What listing some bytes on a table s answers, and the table u that it leaves: the facts are loaded, and then the table
-  -- is completed, as far as nothing is refused.
+  -- Why a run that lists some bytes on a table s was refused a call other than a put, and the table u that it leaves: s is not
+  -- empty and stays as it was, or it took the file's facts and then refused a derived row.
+  abbrev pub Refusing : List ℕ → S → RunFault → S → Type 0
+  Refusing bytes s NotEmpty u = (rows s ≡ [] → ⊥) × (u ≡ s)
+  Refusing bytes s NotFact u = ⊥
+  Refusing bytes s RowsMissing u = ⊥
+  Refusing bytes s (Refused refusal) u = ⊥
+  Refusing bytes s (Stopped stop) u =
+      (t : S)
+      × ((n : ℕ)
+      × (Loading rows bounds grew bytes s (Ok n) t × Completing rows bounds grew most t (Err stop) u))
+
+  -- What listing some bytes on a table s answers, and the table u that it leaves: the table is empty, the facts are loaded, and
+  -- then it is completed, as far as nothing is refused.
   abbrev pub Listing : List ℕ → S → Result (List Row) ListingFault → S → Type 0
   Listing bytes s (Ok found) u =
       (t : S)
       × ((n : ℕ)
       × ((k : ℕ)
       × (Loading rows bounds grew bytes s (Ok n) t × Completing rows bounds grew most t (Ok (Finished k)) u
-      × (found ≡ rest (start 18) (rows u)))))
+      × (found ≡ rest (start 18) (rows u)) × (rows s ≡ []))))
   Listing bytes s (Err (Reading fault)) u = Loading rows bounds grew bytes s (Err (Reading fault)) u
-  Listing bytes s (Err (Adding offset fault)) u = Loading rows bounds grew bytes s (Err (Adding offset fault)) u
-  Listing bytes s (Err (Deriving stop)) u =
-      (t : S)
-      × ((n : ℕ)
-      × (Loading rows bounds grew bytes s (Ok n) t × Completing rows bounds grew most t (Err stop) u))
+  Listing bytes s (Err (Putting offset fault)) u = Loading rows bounds grew bytes s (Err (Putting offset fault)) u
+  Listing bytes s (Err (Running fault)) u = Refusing bytes s fault u
   Listing bytes s (Err NoMemory) u = Unit {0}
   Listing bytes s (Err Input) u = ⊥
   Listing bytes s (Err (Opening fault)) u = ⊥

@@ -11,15 +11,28 @@ use Rattle.std.specs.declared.result.Result.{Result}
 use Rattle.std.specs.declared.result.Result.the-variants.{Ok, Err}
 use Rattle.rows.specs.declared.row.Row.{Row}
 use Rattle.rows.specs.declared.answer.Limits.{Limits}
+use Rattle.rows.specs.declared.answer.Outcome.{Outcome}
+use Rattle.rows.specs.declared.answer.TableFault.{TableFault}
 use Rattle.rows.specs.Rows.{has}
 use Rattle.rows.specs.Tables.{add-answer, rows-after}
 use Rattle.rows.specs.Changes.{Changed}
 use Rattle.rows.specs.Adding.{Filled, taken}
 use Rattle.facts.specs.declared.record.Record.{Record}
-use Rattle.facts.specs.Format.{Fact, file, written, Refused, fault-offset, Answered}
+use Rattle.facts.specs.Format as format
+use Rattle.facts.specs.Format.{Fact, file, written, fault-offset, Answered}
+use Rattle.analysis.specs.declared.fault.RunFault.{RunFault}
+use Rattle.analysis.specs.declared.fault.RunFault.the-variants.{NotEmpty, NotFact, RowsMissing, Refused, Stopped}
 use Rattle.listing.specs.declared.fault.ListingFault.{ListingFault}
-use Rattle.listing.specs.declared.fault.ListingFault.the-variants.{Input, Opening, Reading, Adding, Deriving, NoMemory}
+use Rattle.listing.specs.declared.fault.ListingFault.the-variants.{Input, Opening, Reading, Putting, Running, NoMemory}
 use Rattle.listing.specs.declared.load.Loaded.{Loaded}
+
+-- The fault of a put is the table's own refusal, whole.
+abbrev pub RefusedBy : Result Outcome TableFault → RunFault → Type 0
+RefusedBy answer NotEmpty = ⊥
+RefusedBy answer NotFact = ⊥
+RefusedBy answer RowsMissing = ⊥
+RefusedBy answer (Refused refusal) = answer ≡ Err (refusal .fault)
+RefusedBy answer (Stopped stop) = ⊥
 
 module _ {S : Type 0} (rows : S → List Row) (bounds : S → Limits) (grew : S → Row → S → Type 0) where
   -- What one record makes of a reader that stands at an offset before some bytes, and of a table s, which becomes t.
@@ -32,14 +45,14 @@ module _ {S : Type 0} (rows : S → List Row) (bounds : S → Limits) (grew : S 
       × (bounds t ≡ bounds s)
       × Changed grew s (x .record .row) (Ok (x .outcome)) t
   Step at bytes s (Err (Reading fault)) at′ bytes′ t = Answered at bytes (Err fault) at′ bytes′ × (t ≡ s)
-  Step at bytes s (Err (Adding offset fault)) at′ bytes′ t =
+  Step at bytes s (Err (Putting offset fault)) at′ bytes′ t =
       (r : Row)
       × (Answered at bytes (Ok (Some (record { offset = offset; row = r }))) at′ bytes′
-      × (Err fault ≡ add-answer (bounds s) (rows s) r)
+      × RefusedBy (add-answer (bounds s) (rows s) r) fault
       × (t ≡ s))
   Step at bytes s (Err Input) at′ bytes′ t = ⊥
   Step at bytes s (Err (Opening fault)) at′ bytes′ t = ⊥
-  Step at bytes s (Err (Deriving stop)) at′ bytes′ t = ⊥
+  Step at bytes s (Err (Running fault)) at′ bytes′ t = ⊥
   Step at bytes s (Err NoMemory) at′ bytes′ t = ⊥
 
   -- A table s became t as some facts were added in turn, and none of them was refused.
@@ -58,15 +71,15 @@ module _ {S : Type 0} (rows : S → List Row) (bounds : S → Limits) (grew : S 
   Loading bytes s (Err (Reading fault)) t =
       (facts : List Row)
       × ((rest : List ℕ)
-      × (Took s facts t × (bytes ≡ file facts ++ rest) × (fault-offset fault ≡ length (file facts)) × Refused rest fault))
+      × (Took s facts t × (bytes ≡ file facts ++ rest) × (fault-offset fault ≡ length (file facts)) × format.Refused rest fault))
   -- the file of facts that the table took comes first, and then the record of one that it refuses
-  Loading bytes s (Err (Adding offset fault)) t =
+  Loading bytes s (Err (Putting offset fault)) t =
       (facts : List Row)
       × ((r : Row)
       × ((rest : List ℕ)
       × (Took s facts t × Fact r × (bytes ≡ file facts ++ (written r ++ rest)) × (offset ≡ length (file facts))
-      × (add-answer (bounds t) (rows t) r ≡ Err fault))))
+      × RefusedBy (add-answer (bounds t) (rows t) r) fault)))
   Loading bytes s (Err Input) t = ⊥
   Loading bytes s (Err (Opening fault)) t = ⊥
-  Loading bytes s (Err (Deriving stop)) t = ⊥
+  Loading bytes s (Err (Running fault)) t = ⊥
   Loading bytes s (Err NoMemory) t = ⊥

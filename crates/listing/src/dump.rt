@@ -1,6 +1,6 @@
 // Every derived row of a facts file as text, or the one line of its refusal.
 ghost use mathlib.Core.Path.{_≡_};
-ghost use mathlib.Core.List.{[], _++_};
+ghost use mathlib.Core.List.{_++_};
 ghost use Prim.Native.Nat.{_<_};
 ghost use lib.Chars.{codes};
 ghost use Rattle.std.specs.Of.String.{string-bytes};
@@ -12,16 +12,18 @@ ghost use Rattle.listing.specs.Listing.{most, Lists, Listing};
 ghost use Rattle.listing.specs.Dumps.{Dumped};
 ghost use Rattle.listing.specs.Text.{fault-words};
 use crate::derive::derive;
-use crate::derive::derived_rows;
 use crate::fault::ListingFault;
 use crate::fault::ListingFaultDisplay;
 use crate::fault::ListingFaultFromAlloc;
 use crate::fault::ListingFaultFromOpen;
-use crate::fault::ListingFaultFromStop;
+use crate::fault::ListingFaultFromRun;
+use crate::fault::ListingFaultFromUnfinished;
 use crate::input::MOST_BYTES;
 use crate::input::read_input;
 use crate::lines::lines;
 use crate::load::load;
+use crate::reading::read_derived;
+use analysis::begin::begin;
 use list::List;
 use list::ListTable;
 use rows::row::Row;
@@ -77,12 +79,15 @@ fn dump_rows(heap: Global, bytes: &[u8]) -> Result<Vec<Row>, ListingFault>
 }
 
 // The derived rows of a facts file, on any table.
-pub(crate) fn rows_of<T: Table>(heap: Global, t: &mut T, bytes: &[u8]) -> Result<Vec<Row>, ListingFault>
+fn rows_of<T: Table>(heap: Global, t: &mut T, bytes: &[u8]) -> Result<Vec<Row>, ListingFault>
     requires { ⌜ T·Table .bounds (now t) .total < most ⌝ }
     ensures does { λ r. ⌜ Cases r (λ v. Listing (T·Table .rows) (T·Table .bounds) (T·Table .grew) (now (bytes .entry)) (now (t .entry)) (Ok (vec-items v)) (now (t .exit))) (λ e. Listing (T·Table .rows) (T·Table .bounds) (T·Table .grew) (now (bytes .entry)) (now (t .entry)) (Err e) (now (t .exit))) ⌝ }
-    ensures lists { λ r. ⌜ (T·Table .rows (now (t .entry)) ≡ [] → made r (λ v. Lists (now (bytes .entry)) (vec-items v))) ⌝ }
+    ensures lists { λ r. ⌜ made r (λ v. Lists (now (bytes .entry)) (vec-items v)) ⌝ }
 {
-    let _added = load(t, bytes)?;
-    let _derived = derive(t)?;
-    Ok(derived_rows(heap, t)?)
+    let mut filling = begin(t)?;
+    let _added = load(&mut filling, t, bytes)?;
+    let mut running = filling.start();
+    let _derived = derive(&mut running, t)?;
+    let done = running.settle(t)?;
+    Ok(read_derived(heap, &done, t)?)
 }

@@ -1,13 +1,13 @@
 // Why a listing cannot be made.
 ghost use mathlib.Core.Path.{_≡_};
-ghost use Rattle.listing.specs.declared.fault.ListingFault.the-variants.{Opening, Reading, Deriving, NoMemory};
+ghost use Rattle.listing.specs.declared.fault.ListingFault.the-variants.{Opening, Reading, Running, NoMemory};
 ghost use Rattle.std.specs.declared.option.Option.the-variants.{Some};
 ghost use Rattle.listing.specs.Faults.{listing-number};
 ghost use Rattle.listing.specs.Text.{fault-words};
+use analysis::fault::RunFault;
+use analysis::state::Unfinished;
 use facts::record::ReadFault;
-use output::progress::Stop;
 use rows::answer::OpenFault;
-use rows::answer::TableFault;
 use std::alloc::AllocError;
 use std::alloc::Refused;
 use std::fmt;
@@ -20,10 +20,10 @@ pub enum ListingFault {
     Opening(OpenFault),
     // The file has no record where one should stand.
     Reading(ReadFault),
-    // The table refused the fact whose record stands at the offset.
-    Adding { offset: usize, fault: TableFault },
-    // The table refused a derived row.
-    Deriving(Stop),
+    // The run refused the fact whose record stands at the offset.
+    Putting { offset: usize, fault: RunFault },
+    // The run refused another call.
+    Running(RunFault),
     // There is no memory. This is no refusal, and has no number.
     NoMemory,
 }
@@ -37,8 +37,8 @@ impl ListingFault {
             ListingFault::Input => Some(12),
             ListingFault::Opening(fault) => Some(fault.number()),
             ListingFault::Reading(fault) => Some(fault.number()),
-            ListingFault::Adding { offset: _, fault } => Some(fault.number()),
-            ListingFault::Deriving(stop) => Some(stop.fault.number()),
+            ListingFault::Putting { offset: _, fault } => Some(fault.number()),
+            ListingFault::Running(fault) => Some(fault.number()),
             ListingFault::NoMemory => None,
         }
     }
@@ -60,11 +60,19 @@ pub impl From<ReadFault> for ListingFault as ListingFaultFromRead {
     }
 }
 
-pub impl From<Stop> for ListingFault as ListingFaultFromStop {
-    ghost converts = { λ x r. r ≡ Deriving x };
+pub impl From<RunFault> for ListingFault as ListingFaultFromRun {
+    ghost converts = { λ x r. r ≡ Running x };
 
-    fn from(stop: Stop) -> ListingFault {
-        ListingFault::Deriving(stop)
+    fn from(fault: RunFault) -> ListingFault {
+        ListingFault::Running(fault)
+    }
+}
+
+pub impl From<Unfinished> for ListingFault as ListingFaultFromUnfinished {
+    ghost converts = { λ x r. r ≡ Running (x .fault) };
+
+    fn from(unfinished: Unfinished) -> ListingFault {
+        ListingFault::Running(unfinished.fault)
     }
 }
 
@@ -97,14 +105,15 @@ pub impl fmt::Display for ListingFault as ListingFaultDisplay {
                 let offset = fault.offset();
                 write!(f, "refused {number} at {offset}")
             }
-            ListingFault::Adding { offset, fault: _ } => write!(f, "refused {number} at {offset}"),
-            ListingFault::Deriving(stop) => {
+            ListingFault::Putting { offset, fault: _ } => write!(f, "refused {number} at {offset}"),
+            ListingFault::Running(RunFault::Stopped(stop)) => {
                 let relation = stop.relation;
                 write!(f, "refused {number} in {relation}")
             }
-            ListingFault::Input | ListingFault::Opening(_) | ListingFault::NoMemory => {
-                write!(f, "refused {number}")
-            }
+            ListingFault::Running(_)
+            | ListingFault::Input
+            | ListingFault::Opening(_)
+            | ListingFault::NoMemory => write!(f, "refused {number}"),
         }
     }
 }

@@ -1,27 +1,29 @@
-// A run told step by step: the facts as they are read and added, the relations as they are closed, the derived rows, and
+// A run told call by call: the facts as they are put, the rows as they are derived, the derived rows as they are read, and
 // what the errors among them mean.
-use crate::derive::derived_rows;
 use crate::dump::WIDTH;
 use crate::dump::WORDS;
 use crate::fault::ListingFault;
 use crate::fault::ListingFaultDisplay;
 use crate::fault::ListingFaultFromAlloc;
 use crate::fault::ListingFaultFromOpen;
-use crate::fault::ListingFaultFromStop;
+use crate::fault::ListingFaultFromRun;
+use crate::fault::ListingFaultFromUnfinished;
 use crate::input::MOST_BYTES;
 use crate::input::read_input;
 use crate::load::Loaded;
 use crate::load::load_next;
+use crate::reading::read_derived;
 use crate::words::Named;
 use crate::words::NamedDisplay;
 use crate::words::mark_of;
 use crate::words::name_of;
-use datalog::closed::Closed;
+use analysis::begin::begin;
+use analysis::state::Filling;
+use analysis::state::Running;
 use facts::reader::Reader;
 use list::List;
 use list::ListTable;
-use output::complete::close_relation;
-use output::progress::Stop;
+use output::progress::Progress;
 use rows::answer::Outcome;
 use rows::relation::ERRORS;
 use rows::relation::FIRST_DERIVED;
@@ -35,6 +37,9 @@ use std::alloc::AllocError;
 use std::alloc::Global;
 use std::io::Read;
 use table::Table;
+
+// How many rows each advance may add.
+const BUDGET: u32 = 10;
 
 // The walk through what is read from outside. A refusal ends it, told as its last line.
 pub fn walk_input<R: Read + Drop>(heap: Global, input: R) -> Result<String, AllocError> {
@@ -61,24 +66,30 @@ pub fn walk(heap: Global, text: &mut String, bytes: &[u8]) -> Result<(), Listing
     let mut words = vec![in heap; 0u32; WORDS]?;
     List::check(words.as_slice(), WIDTH)?;
     let mut list = List::make(words.as_mut_slice(), WIDTH);
-    tell_facts(heap, text, &mut list, bytes)?;
-    tell_relations(heap, text, &mut list)?;
-    let rows = derived_rows(heap, &list)?;
+    let mut filling = begin(&list)?;
+    tell_facts(heap, text, &mut filling, &mut list, bytes)?;
+    let mut running = filling.start();
+    tell_advances(heap, text, &mut running, &mut list)?;
+    tell_counts(heap, text, &list)?;
+    let done = running.settle(&list)?;
+    text.push_str("\nThe run is settled: no row is missing.\n")?;
+    let rows = read_derived(heap, &done, &list)?;
     tell_rows(heap, text, rows.as_slice())?;
     tell_errors(heap, text, rows.as_slice())?;
     Ok(())
 }
 
-// Each record as it is read and added.
+// Each record as it is read and put.
 fn tell_facts<T: Table>(
     heap: Global,
     text: &mut String,
+    filling: &mut Filling,
     t: &mut T,
     bytes: &[u8],
 ) -> Result<(), ListingFault> {
-    text.push_str("The facts, each read from its offset in the file and added to the table:\n")?;
+    text.push_str("The facts, each read from its offset in the file and put into the table:\n")?;
     let mut reader = Reader::new(bytes);
-    while let Some(loaded) = load_next(&mut reader, t)? {
+    while let Some(loaded) = load_next(filling, &mut reader, t)? {
         text.push_str(fact_line(heap, loaded)?.as_str())?;
     }
     let count = (*t).count();
@@ -97,35 +108,40 @@ fn fact_line(heap: Global, loaded: Loaded) -> Result<String, AllocError> {
     format!(heap, "  at {offset}: {mark} {row}: {answer}\n")
 }
 
-// Each derived relation as it is closed under its rule, in order.
-fn tell_relations<T: Table>(
+// Each advance and its answer, until no row is missing.
+fn tell_advances<T: Table>(
     heap: Global,
     text: &mut String,
+    running: &mut Running,
     t: &mut T,
 ) -> Result<(), ListingFault> {
-    text.push_str("\nThe derived relations, each closed under its rule after those before it:\n")?;
-    let mut added = 0u32;
-    for relation in FIRST_DERIVED..RELATIONS {
-        match close_relation(relation, t, u32::MAX) {
-            // The budget is larger than any list, so it is never spent.
-            Closed::Finished(n) | Closed::Spent(n) => {
-                added = added.saturating_add(n);
-                text.push_str(closed_line(heap, relation, n)?.as_str())?;
-            }
-            Closed::Refused(n, fault) => {
-                added = added.saturating_add(n);
-                return Err(ListingFault::from(Stop {
-                    relation,
-                    added,
-                    fault,
-                }));
-            }
+    text.push_str("\nThe missing rows, derived by one budget after another:\n")?;
+    loop {
+        let progress = running.advance(t, BUDGET)?;
+        text.push_str(advance_line(heap, progress)?.as_str())?;
+        if let Progress::Finished(_) = progress {
+            return Ok(());
         }
+    }
+}
+
+fn advance_line(heap: Global, progress: Progress) -> Result<String, AllocError> {
+    match progress {
+        Progress::Finished(n) => format!(heap, "  advance {BUDGET}: Finished {n}\n"),
+        Progress::Spent(n) => format!(heap, "  advance {BUDGET}: Spent {n}\n"),
+    }
+}
+
+// How many rows each derived relation has.
+fn tell_counts<T: Table>(heap: Global, text: &mut String, t: &T) -> Result<(), AllocError> {
+    text.push_str("\nThe derived relations, and how many rows each has now:\n")?;
+    for relation in FIRST_DERIVED..RELATIONS {
+        text.push_str(count_line(heap, relation, t.count_of(relation))?.as_str())?;
     }
     Ok(())
 }
 
-fn closed_line(heap: Global, relation: u32, n: u32) -> Result<String, AllocError> {
+fn count_line(heap: Global, relation: u32, n: u32) -> Result<String, AllocError> {
     let name = name_of(relation);
     let rows = if n == 1 { "row" } else { "rows" };
     format!(heap, "  {relation} {name}: {n} {rows}\n")
@@ -134,7 +150,10 @@ fn closed_line(heap: Global, relation: u32, n: u32) -> Result<String, AllocError
 // Every derived row.
 fn tell_rows(heap: Global, text: &mut String, rows: &[Row]) -> Result<(), AllocError> {
     let count = rows.len();
-    text.push_str(format!(heap, "\nThe {count} derived rows:\n")?.as_str())?;
+    text.push_str(format!(
+        heap,
+        "\nThe {count} derived rows, read relation by relation:\n"
+    )?.as_str())?;
     for row in rows {
         let named = Named(*row);
         text.push_str(format!(heap, "  {named}\n")?.as_str())?;
