@@ -75,11 +75,34 @@ fn refused(rt: &LibcRuntime) -> io::Result<()> {
     refusals::settle_early(rt, &mut List::make(&mut words, 3))
 }
 
+// A bit table has a place for every row, so that only a quota can fill it.
+fn full_under<T: Table>(rt: &LibcRuntime, below: &mut T) -> io::Result<()> {
+    let mut own = Maxima::all(100);
+    own.limit(2, 1);
+    refusals::full(rt, &mut Quota::new(below, own))
+}
+
+fn refused_on_bits(rt: &LibcRuntime) -> io::Result<()> {
+    let mut bits = [0u64; 7];
+    rt.println("# a begin on a bit table that holds a row")?;
+    refusals::begin_again(rt, &mut Bits::make(&mut bits, 3))?;
+    let mut bits = [0u64; 7];
+    rt.println("# puts that a bit table refuses")?;
+    refusals::puts(rt, &mut Bits::make(&mut bits, 3))?;
+    let mut bits = [0u64; 7];
+    rt.println("# a bit table under a quota of 1 on relation 2")?;
+    full_under(rt, &mut Bits::make(&mut bits, 3))?;
+    let mut bits = [0u64; 7];
+    rt.println("# a settle too early on a bit table")?;
+    refusals::settle_early(rt, &mut Bits::make(&mut bits, 3))
+}
+
 fn main(rt: LibcRuntime) -> io::Result<()> {
     on_lists(&rt)?;
     on_short_lists(&rt)?;
     on_others(&rt)?;
     refused(&rt)?;
+    refused_on_bits(&rt)?;
     rt.println("# three facts in each of their orders")?;
     orders::every_order(&rt)
 }
