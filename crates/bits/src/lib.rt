@@ -1,5 +1,7 @@
 // A table with one bit for each row that it may hold, in a caller's words. The rows lie ascending, a word's lowest bit
 // first.
+#![tactic(auto)]
+
 ghost use Rattle.std.specs.Prelude.{◌≡◌, ◌*◌, ◌<◌, ◌≤◌, false, [], length, if◌then◌else◌};
 ghost use Rattle.bit_places.specs.Places.{base, place};
 ghost use Rattle.bit_places.specs.Bit.{bit, raised};

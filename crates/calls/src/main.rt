@@ -1,6 +1,8 @@
 // How often the evaluator asks its table, for each derived row: bodies of growing size, straight and with a loop, and facts
 // files. Sizes are given as arguments; the larger ones take a while on a list, which looks rows up by walking them. The
 // argument `facts` stands for the facts file on standard input.
+#![tactic(auto)]
+
 use counting::Counted;
 use facts::record::Record;
 use facts::whole::{WholeFault, read_all};

@@ -1,4 +1,6 @@
 // A table that counts how often the one below it is asked: for measuring the evaluator. It means what the one below means.
+#![tactic(auto)]
+
 ghost use Rattle.std.specs.Prelude.{◌≡◌};
 ghost use Rattle.rows.specs.declared.row.Row.{Row};
 

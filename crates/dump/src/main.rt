@@ -1,4 +1,6 @@
 // Lists every derived row of the facts file on standard input, or the one line of its refusal.
+#![tactic(auto)]
+
 use listing::dump::dump_input;
 use std::io;
 

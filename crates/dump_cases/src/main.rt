@@ -1,6 +1,8 @@
 // Lists many small facts files. Standard input holds the cases as text: a line `# TITLE`, and then the facts, a line to
 // each, as `LI 0 0 0`, or bytes in hexadecimal after a `!`, for files that are damaged. Each title is printed, and below it
 // what the listing of the case's file is.
+#![tactic(auto)]
+
 mod cases;
 
 use cases::{CaseFault, add_line};

@@ -1,4 +1,6 @@
 // Facts: the kinds of atoms that they name, and the reader of facts files.
+#![tactic(auto)]
+
 pub mod atom;
 mod mark;
 pub mod number;

@@ -1,4 +1,6 @@
 // The work of the programs, as functions on values: facts go in as the bytes of a facts file, text comes out.
+#![tactic(auto)]
+
 mod derive;
 pub mod dump;
 pub mod fault;

@@ -1,5 +1,7 @@
 // Prints the records of a facts file on standard input, one to a line: the offset, the relation's name and its codes.
 // A file that cannot be read prints one line: the number of the refusal and its offset.
+#![tactic(auto)]
+
 use facts::record::Record;
 use facts::whole::{WholeFault, read_all};
 use rows::relation;

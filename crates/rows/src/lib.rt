@@ -1,4 +1,6 @@
 // Rows of the analysis: relations, codes, their order; and what every table of rows answers.
+#![tactic(auto)]
+
 pub mod answer;
 pub mod like;
 pub mod relation;

@@ -1,4 +1,6 @@
 // Runs on small tables, and what their calls answer: a line to each call, below the name of each case.
+#![tactic(auto)]
+
 mod answers;
 mod example;
 mod orders;

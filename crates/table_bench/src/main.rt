@@ -1,5 +1,7 @@
 // Prints nanoseconds a call, for growing tables, if it is given an argument; with none it does nothing, so that the gate
 // has no timing to compare.
+#![tactic(auto)]
+
 use bits::Bits;
 use list::List;
 use rows::relation::CFG_EDGE;

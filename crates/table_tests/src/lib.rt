@@ -1,4 +1,6 @@
 // Tests of the tables at their limits.
+#![tactic(auto)]
+
 #[cfg(test)]
 mod tests {
     use bits::Bits;

@@ -1,4 +1,6 @@
 // Theorems about the derived relations, each the contract of a function.
+#![tactic(auto)]
+
 ghost use Rattle.theorems.specs.Compared.{LoanErrorsCompared, SubsetErrorsCompared};
 ghost use Rattle.theorems.specs.Restriction.{SubsetStruck};
 ghost use Rattle.theorems.specs.Cases.{UsedLoan, KilledLoan, MovedThenAccessed, MovedNotReached, ChildMoved, KnownSubset, UnknownSubset, NoPlaceholder, SharedPlaceholder, MutualSubset, RegionNowhere, RegionLive};

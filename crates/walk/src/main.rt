@@ -1,4 +1,6 @@
 // Tells the analysis of the facts file on standard input step by step.
+#![tactic(auto)]
+
 use listing::walk::walk_input;
 use std::io;
 

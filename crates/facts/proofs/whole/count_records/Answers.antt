@@ -12,9 +12,9 @@ returns-in-err-next-record c =
 
 pub loop-count-preserved : goal.loop-count-preserved
 loop-count-preserved c =
-    one_counted _ _ _ _ _ _ _ _ c.loop-count.invariant c.in-ok-next-record.ensures.stands c.in-Some.is
+    one_counted _ _ _ _ _ _ _ _ c.loop-count.invariant c.in_ok-next_record.ensures.stands c.in-Some.is
 
 pub returns : goal.returns
 returns c =
-    let w = counted_whole _ _ _ _ _ _ _ c.loop-count.invariant c.in-ok-next-record.ensures.stands c.in-default.is in
+    let w = counted_whole _ _ _ _ _ _ _ c.loop-count.invariant c.in_ok-next_record.ensures.stands c.in_default.is in
     record { stands = w; exact = λ rs f e. ap Ok (counted_exact _ _ w rs f e) }

@@ -11,9 +11,9 @@ returns-in-err-record c =
 
 pub loop-found-preserved : goal.loop-found-preserved
 loop-found-preserved c =
-    one_more _ _ _ _ _ _ _ _ _ c.loop-found.invariant c.in-ok-record.ensures.stands c.in-Some.is c.in-ok-push.ensures.items
+    one_more _ _ _ _ _ _ _ _ _ c.loop-found.invariant c.in_ok-record.ensures.stands c.in-Some.is c.in_ok-push.ensures.items
 
 pub returns : goal.returns
 returns c =
-    let w = read_whole _ _ _ _ _ _ _ c.loop-found.invariant c.in-ok-record.ensures.stands c.in-default.is in
+    let w = read_whole _ _ _ _ _ _ _ c.loop-found.invariant c.in_ok-record.ensures.stands c.in_default.is in
     record { stands = w; exact = λ rs f e. read_exact _ _ w rs f e }

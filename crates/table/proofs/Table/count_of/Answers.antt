@@ -55,5 +55,5 @@ pub returns : goal.returns
 unfolding of_relation
 returns g c =
     let xs = g.Self.Table.rows c.args.self.now in
-    let none = ap (λ ys. length (of_relation c.args.relation ys)) (rest_none c.loop-r.from xs (sym c.next.ensures ∙ c.in-default.is)) in
+    let none = ap (λ ys. length (of_relation c.args.relation ys)) (rest_none c.loop-r.from xs (sym c.next.ensures ∙ c.in_default.is)) in
     omega arith

@@ -51,4 +51,4 @@ loop-start-preserved g c =
 pub returns : goal.returns
 returns g c =
     come_end (g.Self.Table.rows c.args.self.now) (g.Self.Table.lawful c.args.self.now).ascending c.args.from c.args.like
-    c.loop-start.at c.loop-start.invariant c.in-default.ensures
+    c.loop-start.at c.loop-start.invariant c.in_default.ensures

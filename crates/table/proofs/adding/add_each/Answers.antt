@@ -4,7 +4,7 @@ use Rattle.rows.specs.Rows.{start}
 use Rattle.rows.specs.Adding.{Filled, taken, went_in}
 use Rattle.rows.proofs.Addings.{filled_none, filled_more, taken_counts, taken_few}
 use Rattle.table.proofs.adding.add_each.Goals as goal
-use Rattle.table.proofs.adding.add_each.Goals.{then-went-in, else-went-in}
+use Rattle.table.proofs.adding.add_each.Goals.{then-went_in, else-went_in}
 
 pub loop-r-init : goal.loop-r-init
 unfolding taken
@@ -29,10 +29,10 @@ loop-r-preserved g c =
     let f = c.loop-r.invariant.0 in
     let m = filled_more g.T.Table.rows g.T.Table.bounds g.T.Table.grew s (take i xs) c.loop-r.t r c.add.new.self c.add.result f a.answer a.after a.kept a.changed in
     let n = taken_counts g.T.Table.rows g.T.Table.bounds g.T.Table.grew s (take i xs) c.loop-r.t r c.add.result f a.answer in
-    let k : c.if-went-in.added ≡ c.loop-r.added + cond (went_in c.add.result) 1 0 =
-    elim c.if-went-in.branch [
-      | then-went-in w ↦ w.added-is ∙ ap (λ b. c.loop-r.added + cond b 1 0) w.if-went-in.ensures
-      | else-went-in w ↦ w.added-is ∙ sym (add-zero c.loop-r.added) ∙ ap (λ b. c.loop-r.added + cond b 1 0) w.if-went-in.ensures
+    let k : c.if-went_in.added ≡ c.loop-r.added + cond (went_in c.add.result) 1 0 =
+    elim c.if-went_in.branch [
+      | then-went_in w ↦ w.added-is ∙ ap (λ b. c.loop-r.added + cond b 1 0) w.if-went-in.ensures
+      | else-went_in w ↦ w.added-is ∙ sym (add-zero c.loop-r.added) ∙ ap (λ b. c.loop-r.added + cond b 1 0) w.if-went-in.ensures
     ] in (
       subst (λ rs. Filled g.T.Table.rows g.T.Table.bounds g.T.Table.grew (g.T.Table.bounds s) s rs c.add.new.self) e m,
       k ∙ ap (λ x. x + cond (went_in c.add.result) 1 0) c.loop-r.invariant.1 ∙ sym n ∙ ap (λ rs. length (taken (g.T.Table.bounds s) (g.T.Table.rows s) rs)) e,

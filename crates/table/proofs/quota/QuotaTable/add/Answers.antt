@@ -44,7 +44,7 @@ returns g c =
     let m = g.T.Table.bounds q.below in
     let xs = g.T.Table.rows q.below in
     let e : length q.own.most ≡ length m.each = q.own.forty ∙ sym law.forty in
-    let s = sym (adds.capped_answer m xs c.args.r q.own.most e (omega (arith, c.count-of.ensures, c.of.ensures))) in
+    let s = sym (adds.capped_answer m xs c.args.r q.own.most e (omega (arith, c.count_of.ensures, c.of.ensures))) in
     record {
       answer = c.add.ensures.answer ∙ s;
       after = c.add.ensures.after;
