@@ -10,8 +10,8 @@ use Rattle.bits.proofs.each_for.Goals as goal
 pub returns-then-not-live : goal.returns-then-not-live
 returns-then-not-live c = each_shut c.args.width ∙ ap (λ b. each_limit b c.args.width) (sym c.if-not-live.true)
 
-pub overflow-cast-each : goal.overflow-cast-each
-overflow-cast-each c = let h = size_most c.args.width c.requires c.loop-k.k in let e = c.size.ensures in search rules
+pub overflow_cast-each : goal.overflow_cast-each
+overflow_cast-each c = let h = size_most c.args.width c.requires c.loop-k.k in let e = c.size.ensures in search rules
 
 pub loop-k-preserved : goal.loop-k-preserved
 loop-k-preserved c =

@@ -5,8 +5,8 @@ use Rattle.bits.proofs.low_bit.Goals as goal
 pub returns-then-rest-eq0 : goal.returns-then-rest-eq0
 returns-then-rest-eq0 c = low_none c.args.word c.args.k c.requires c.if-rest-eq0.true
 
-pub overflow-add-result : goal.overflow-add-result
-overflow-add-result c =
+pub overflow_add-result : goal.overflow_add-result
+overflow_add-result c =
     let h = low_in c.args.word c.args.k c.requires (omega arith) (omega (arith, c.if-rest-eq0.false)) in
     search rules
 

@@ -16,16 +16,16 @@ returns-then-width-lt1 c =
     let e : fits_width c.args.width ≡ false = grind (arith, nat_tests) in
     record { answer = sym (ap (λ b. opening b (fits_words (length c.args.words.now) c.args.width)) e); layout = enumerated c.args.width }
 
-pub returns-then-words-words-for : goal.returns-then-words-words-for
-returns-then-words-words-for c =
+pub returns-then-words-words_for : goal.returns-then-words-words_for
+returns-then-words-words_for c =
     let w = c.args.width in
     let e = wide w c.if-width-lt1.false c.if-width-gt-WIDEST.false in
-    let f = words_few (length c.args.words.now) w (omega (arith, c.words-for.ensures)) in
+    let f = words_few (length c.args.words.now) w (omega (arith, c.words_for.ensures)) in
     record { answer = sym (λ i. opening (e i) (f i)); layout = enumerated w }
 
 pub returns : goal.returns
 returns c =
     let w = c.args.width in
     let e = wide w c.if-width-lt1.false c.if-width-gt-WIDEST.false in
-    let f = words_enough (length c.args.words.now) w (omega (arith, c.words-for.ensures)) in
+    let f = words_enough (length c.args.words.now) w (omega (arith, c.words_for.ensures)) in
     record { answer = sym (λ i. opening (e i) (f i)); layout = enumerated w }

@@ -9,8 +9,8 @@ use Rattle.bit_places.proofs.Marks.{few_marked}
 use Rattle.bit_places.proofs.Tabled.{count_raised}
 use Rattle.bits.proofs.Bits.raise.Goals as goal
 
-pub overflow-add-self : goal.overflow-add-self
-overflow-add-self c =
+pub overflow_add-self : goal.overflow_add-self
+overflow_add-self c =
     let s = c.args.self.now in
     let f = few_marked s.width s.words.now 0 s.places in
     let p = places_small s.width s.live s.places s.narrow s.sized in
@@ -18,8 +18,8 @@ overflow-add-self c =
     let b : s.held ≤ 1310720 = omega arith in
     search rules
 
-pub invariant-of-self : goal.invariant-of-self
-invariant-of-self c =
+pub invariant_of-self : goal.invariant_of-self
+invariant_of-self c =
     let s = c.args.self.now in
     let i = c.args.i in
     let ws = s.words.now in

@@ -3,8 +3,8 @@ use Rattle.bit_places.proofs.Lawfuls.{places_small}
 use Rattle.bit_places.proofs.Openings.{limits_are}
 use Rattle.bits.proofs.BitsTable.limits.Goals as goal
 
-pub overflow-cast-result : goal.overflow-cast-result
-overflow-cast-result c =
+pub overflow_cast-result : goal.overflow_cast-result
+overflow_cast-result c =
     let s = c.args.self.now in
     let p = places_small s.width s.live s.places s.narrow s.sized in
     search rules
@@ -12,4 +12,4 @@ overflow-cast-result c =
 pub returns : goal.returns
 returns c =
     let s = c.args.self.now in
-    limits_are s.width s.places s.live c.each-for.result s.sized c.each-for.ensures
+    limits_are s.width s.places s.live c.each_for.result s.sized c.each_for.ensures

@@ -8,7 +8,7 @@ use Rattle.bits.proofs.BitsTable.next.Goals as goal
 pub returns-then-i-self : goal.returns-then-i-self
 returns-then-i-self c =
     let s = c.args.self.now in
-    ap Some c.row-at.ensures
+    ap Some c.row_at.ensures
     ∙ sym (first_sought s.width s.words.now c.args.r s.places c.seek-i.result (within s.width s.live s.places s.sized)
     (subst (λ k. Sought s.words.now k s.places c.seek-i.result) c.place.ensures c.seek-i.ensures) c.if-i-self.true)
 

@@ -19,8 +19,8 @@ pair_is c =
     let h = pair_most c.args.width c.requires c.args.r.now.relation in
     omega arith
 
-pub overflow-mul-s : goal.overflow-mul-s
-overflow-mul-s c = let h = pair_is c in search rules
+pub overflow_mul-s : goal.overflow_mul-s
+overflow_mul-s c = let h = pair_is c in search rules
 
 pub digit-requires : goal.digit-requires
 digit-requires c =
@@ -31,8 +31,8 @@ digit-requires c =
 inner-is : (c : goal.After-digit) → c.digit.result ≡ inner c.args.width c.args.r.now.relation c.args.r.now.a c.args.r.now.b c.args.r.now.c
 inner-is c = cc (c.second-s.ensures, c.third-t.ensures, c.digit-low.ensures, c.digit.ensures)
 
-pub overflow-add-result : goal.overflow-add-result
-overflow-add-result c =
+pub overflow_add-result : goal.overflow_add-result
+overflow_add-result c =
     let k = c.args.r.now.relation in
     let e = inner-is c in
     let h = base_most c.args.width c.requires k in

@@ -8,8 +8,8 @@ returns-in-len2-up c =
     let low = c.from.result in
     let high = c.from-in-len2-up.result in
     let rest = take (length bs - 2) (drop 2 bs) in
-    let l : low < 256 = omega (arith, c.ok.bytes 0) in
-    let h : high < 256 = omega (arith, c.ok.bytes 1) in
+    let l : low < 256 = omega (arith, c.type_inv.bytes 0) in
+    let h : high < 256 = omega (arith, c.type_inv.bytes 1) in
     let two : 2 ≤ length bs = omega (arith, ltb-false) in
     let read : get_or bs 0 0 ∷ get_or bs 1 0 ∷ rest ≡ low ∷ high ∷ rest =
     ap (λ x. x ∷ get_or bs 1 0 ∷ rest) (sym c.from.ensures) ∙ ap (λ x. low ∷ x ∷ rest) (sym c.from-in-len2-up.ensures) in

@@ -3,11 +3,11 @@ use Rattle.std.proofs.lemmas.Result.{err_from_is_err_and}
 use Rattle.facts.proofs.Files.{one_counted, counted_whole, counted_exact, stopped, stopped_not_file}
 use Rattle.facts.proofs.whole.count_records.Goals as goal
 
-pub returns-in-err-next-record : goal.returns-in-err-next-record
-returns-in-err-next-record c =
-    let p = err_from_is_err_and c.from-residual.result c.from-residual.ensures.1 in
+pub returns-in_err-next_record : goal.returns-in_err-next_record
+returns-in_err-next_record c =
+    let p = err_from_is_err_and c.from_residual.result c.from_residual.ensures.1 in
     rw (p.1, p.2)
-    (let s = stopped _ _ _ _ _ _ _ c.loop-count.invariant.before c.in-err-next-record.ensures.stands in
+    (let s = stopped _ _ _ _ _ _ _ c.loop-count.invariant.before c.in_err-next_record.ensures.stands in
     record { stands = s; exact = λ rs f e. absurd (stopped_not_file _ _ s rs f e) })
 
 pub loop-count-preserved : goal.loop-count-preserved

@@ -14,8 +14,8 @@ loop-row-preserved c =
     let xs = c.args.rows.now in
     let i = c.loop-row.row-index in
     let r = get_or xs i (start 0) in
-    c.in-ok-push-str.ensures.bytes
-    ∙ ap (λ z. string_bytes c.loop-row.text ++ z) (c.as-str.ensures.value ∙ c.in-ok-line.ensures)
+    c.in_ok-push_str.ensures.bytes
+    ∙ ap (λ z. string_bytes c.loop-row.text ++ z) (c.as_str.ensures.value ∙ c.in_ok-line.ensures)
     ∙ ap (λ z. z ++ line_of r) c.loop-row.invariant
     ∙ sym (lines_push (take i xs) r)
     ∙ ap lines_of (sym (take_more xs i (start 0) c.loop-row-test.true))

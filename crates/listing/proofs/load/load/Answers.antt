@@ -7,8 +7,8 @@ loop-loaded-init g c =
 
 pub loop-loaded-preserved-in-Added : goal.loop-loaded-preserved-in-Added
 loop-loaded-preserved-in-Added g c =
-    one_added g.T.Table.rows g.T.Table.bounds g.T.Table.grew _ _ _ _ _ _ _ _ _ _ _ c.loop-loaded.invariant c.in-ok-loaded.ensures c.in-Some.is c.in-Added.is
+    one_added g.T.Table.rows g.T.Table.bounds g.T.Table.grew _ _ _ _ _ _ _ _ _ _ _ c.loop-loaded.invariant c.in_ok-loaded.ensures c.in-Some.is c.in-Added.is
 
 pub loop-loaded-preserved : goal.loop-loaded-preserved
 loop-loaded-preserved g c =
-    one_held g.T.Table.rows g.T.Table.bounds g.T.Table.grew _ _ _ _ _ _ _ _ _ _ _ c.loop-loaded.invariant c.in-ok-loaded.ensures c.in-Some.is c.in-Held.is
+    one_held g.T.Table.rows g.T.Table.bounds g.T.Table.grew _ _ _ _ _ _ _ _ _ _ _ c.loop-loaded.invariant c.in_ok-loaded.ensures c.in-Some.is c.in-Held.is

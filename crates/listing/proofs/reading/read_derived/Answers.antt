@@ -8,7 +8,7 @@ loop-relation-preserved g c =
     let xs = g.T.Table.rows c.args.t.now in
     let k = c.loop-relation.relation in
     let found = vec_items c.loop-relation.found in
-    ap (λ z. z ++ rest (start (k + 1)) xs) c.in-ok-read-relation.ensures
+    ap (λ z. z ++ rest (start (k + 1)) xs) c.in_ok-read_relation.ensures
     ∙ append_assoc found (of_relation k xs) (rest (start (k + 1)) xs)
     ∙ ap (λ z. found ++ z) (sym (relation_first k xs (g.T.Table.lawful c.args.t.now).ascending))
     ∙ c.loop-relation.invariant

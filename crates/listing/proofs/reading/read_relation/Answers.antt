@@ -10,9 +10,9 @@ use Rattle.listing.proofs.reading.read_relation.Goals as goal
 pub loop-r-init : goal.loop-r-init
 loop-r-init g c = ap (λ z. vec_items c.args.found.now ++ z) (read_all c.args.relation (g.T.Table.rows c.args.t.now))
 
-pub overflow-add-from : goal.overflow-add-from
+pub overflow_add-from : goal.overflow_add-from
 unfolding read_answer
-overflow-add-from g c =
+overflow_add-from g c =
     let k = c.args.relation in
     let xs = g.T.Table.rows c.args.t.now in
     let law = g.T.Table.lawful c.args.t.now in
@@ -40,7 +40,7 @@ loop-r-preserved g c =
     let r = c.in-Some.r in
     let left = rest (row3 k r.a r.b (r.c + 1)) (of_relation k xs) in
     let e = read_step k q r xs law.ascending (sym c.in-Some.ensures) in
-    ap (λ z. z ++ left) c.in-ok-push.ensures.items
+    ap (λ z. z ++ left) c.in_ok-push.ensures.items
     ∙ append_assoc (vec_items c.loop-r.found) (r ∷ []) left
     ∙ ap (λ z. vec_items c.loop-r.found ++ z) (sym e)
     ∙ c.loop-r.invariant
@@ -51,5 +51,5 @@ returns g c =
     let k = c.args.relation in
     let xs = g.T.Table.rows c.args.t.now in
     let q = row3 k c.loop-r.from.a c.loop-r.from.b c.loop-r.from.c in
-    let none = rest_none q (of_relation k xs) (sym c.read.ensures ∙ c.in-default.is) in
+    let none = rest_none q (of_relation k xs) (sym c.read.ensures ∙ c.in_default.is) in
     sym (append-nil (vec_items c.loop-r.found)) ∙ ap (λ z. vec_items c.loop-r.found ++ z) (sym none) ∙ c.loop-r.invariant

@@ -4,4 +4,4 @@ use Rattle.listing.proofs.walk.tell_advances.Goals as goal
 
 pub loop-progress-smaller : goal.loop-progress-smaller
 loop-progress-smaller g c =
-    less_room g.T.Table.rows g.T.Table.bounds g.T.Table.grew 10 _ _ _ (omega arith) (g.T.Table.lawful _) c.in-ok-progress.ensures.kept c.in-ok-progress.ensures.does c.in-default.not-Finished
+    less_room g.T.Table.rows g.T.Table.bounds g.T.Table.grew 10 _ _ _ (omega arith) (g.T.Table.lawful _) c.in_ok-progress.ensures.kept c.in_ok-progress.ensures.does c.in_default.not-Finished

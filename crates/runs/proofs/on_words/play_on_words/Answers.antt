@@ -29,7 +29,7 @@ returns g c =
     let words = grown_written {S = List} ghosts.grew (λ l. l.words.now) (λ l. l.used) (λ l r k h. (h.0, h.1)) s w.added t w.grown m.used room in
     let place = grown_keeps {S = List} ghosts.grew (λ l. l.words.ghost_name) (λ l r k h. h.4) s w.added t w.grown in (
       w.added,
-      c.words·1.given.1.1 (sym (place ∙ m.place)) ∙ words ∙ ap (written w.added) m.words,
+      c.words-1.given.1.1 (sym (place ∙ m.place)) ∙ words ∙ ap (written w.added) m.words,
       subst (λ xs. Promised (vec_items log) xs) (w.held ∙ ap (λ xs. joined xs w.added) empty) promised,
     ))
     c.play.ensures.played (c.play.ensures.promised empty)

@@ -22,15 +22,15 @@ returns-in-Filling g c =
       kept = e.kept;
     }
 
-pub returns-in-default : goal.returns-in-default
-returns-in-default g c =
+pub returns-in_default : goal.returns-in_default
+returns-in_default g c =
     let rows = g.T.Table.rows in
     let bounds = g.T.Table.bounds in
     let grew = g.T.Table.grew in
     let the = deed {F = g.row.F.Denot} g.Origin.Atom.number g.Loan.Atom.number g.Point.Atom.number g.Variable.Atom.number g.Path.Atom.number in
     let d = the c.args.call.now in
     let t = c.args.t.now in
-    record { does = barred rows bounds grew (phase c.args.state) d _ t (ap the c.in-Put.is) (not_filling_put c.in-Put.r c.args.state c.in-default.not-Filling); kept = refl }
+    record { does = barred rows bounds grew (phase c.args.state) d _ t (ap the c.in-Put.is) (not_filling_put c.in-Put.r c.args.state c.in_default.not-Filling); kept = refl }
 
 pub returns-in-Filling-state : goal.returns-in-Filling-state
 returns-in-Filling-state g c =
@@ -40,27 +40,27 @@ returns-in-Filling-state g c =
     let the = deed {F = g.row.F.Denot} g.Origin.Atom.number g.Loan.Atom.number g.Point.Atom.number g.Variable.Atom.number g.Path.Atom.number in
     let d = the c.args.call.now in
     let t = c.args.t.now in
-    let e = c.put-fact-answer.ensures in
+    let e = c.put_fact-answer.ensures in
     let n = c.in-Filling-state.filling.facts in
-    let m = c.put-fact-answer.new.filling.facts in
-    let a = c.put-fact-answer.result in
-    let u = c.put-fact-answer.new.t in
+    let m = c.put_fact-answer.new.filling.facts in
+    let a = c.put_fact-answer.result in
+    let u = c.put_fact-answer.new.t in
     record {
-      does = told rows bounds grew (phase c.args.state) (Phase.filling n) d (the (PutFact c.in-PutFact.fact)) (Put c.row-of.result a) (Phase.filling m) t u
+      does = told rows bounds grew (phase c.args.state) (Phase.filling n) d (the (PutFact c.in-PutFact.fact)) (Put c.row_of.result a) (Phase.filling m) t u
           (ap phase c.in-Filling-state.is) (ap the c.in-PutFact.is)
-          (subst (λ (r : Row). Act rows bounds grew (Phase.filling n) t (the (PutFact c.in-PutFact.fact)) (Put r a) (Phase.filling m) u) (sym c.row-of.ensures) (Act.puts n m _ a e));
+          (subst (λ (r : Row). Act rows bounds grew (Phase.filling n) t (the (PutFact c.in-PutFact.fact)) (Put r a) (Phase.filling m) u) (sym c.row_of.ensures) (Act.puts n m _ a e));
       kept = e.kept;
     }
 
-pub returns-in-default-state : goal.returns-in-default-state
-returns-in-default-state g c =
+pub returns-in_default-state : goal.returns-in_default-state
+returns-in_default-state g c =
     let rows = g.T.Table.rows in
     let bounds = g.T.Table.bounds in
     let grew = g.T.Table.grew in
     let the = deed {F = g.row.F.Denot} g.Origin.Atom.number g.Loan.Atom.number g.Point.Atom.number g.Variable.Atom.number g.Path.Atom.number in
     let d = the c.args.call.now in
     let t = c.args.t.now in
-    record { does = barred rows bounds grew (phase c.args.state) d _ t (ap the c.in-PutFact.is) (not_filling_put (row_of g.Origin.Atom.number g.Loan.Atom.number g.Point.Atom.number g.Variable.Atom.number g.Path.Atom.number c.in-PutFact.fact) c.args.state c.in-default-state.not-Filling); kept = refl }
+    record { does = barred rows bounds grew (phase c.args.state) d _ t (ap the c.in-PutFact.is) (not_filling_put (row_of g.Origin.Atom.number g.Loan.Atom.number g.Point.Atom.number g.Variable.Atom.number g.Path.Atom.number c.in-PutFact.fact) c.args.state c.in_default-state.not-Filling); kept = refl }
 
 pub returns-in-Filling-state-2 : goal.returns-in-Filling-state-2
 returns-in-Filling-state-2 g c =
@@ -72,15 +72,15 @@ returns-in-Filling-state-2 g c =
     let t = c.args.t.now in
     record { does = told rows bounds grew (phase c.args.state) _ d _ Started _ t _ (ap phase c.in-Filling-state-2.is) (ap the c.in-Start.is) (Act.starts _); kept = refl }
 
-pub returns-in-default-state-2 : goal.returns-in-default-state-2
-returns-in-default-state-2 g c =
+pub returns-in_default-state-2 : goal.returns-in_default-state-2
+returns-in_default-state-2 g c =
     let rows = g.T.Table.rows in
     let bounds = g.T.Table.bounds in
     let grew = g.T.Table.grew in
     let the = deed {F = g.row.F.Denot} g.Origin.Atom.number g.Loan.Atom.number g.Point.Atom.number g.Variable.Atom.number g.Path.Atom.number in
     let d = the c.args.call.now in
     let t = c.args.t.now in
-    record { does = barred rows bounds grew (phase c.args.state) d _ t (ap the c.in-Start.is) (not_filling_start c.args.state c.in-default-state-2.not-Filling); kept = refl }
+    record { does = barred rows bounds grew (phase c.args.state) d _ t (ap the c.in-Start.is) (not_filling_start c.args.state c.in_default-state-2.not-Filling); kept = refl }
 
 pub returns-in-Running : goal.returns-in-Running
 returns-in-Running g c =
@@ -96,15 +96,15 @@ returns-in-Running g c =
       kept = e.kept;
     }
 
-pub returns-in-default-state-3 : goal.returns-in-default-state-3
-returns-in-default-state-3 g c =
+pub returns-in_default-state-3 : goal.returns-in_default-state-3
+returns-in_default-state-3 g c =
     let rows = g.T.Table.rows in
     let bounds = g.T.Table.bounds in
     let grew = g.T.Table.grew in
     let the = deed {F = g.row.F.Denot} g.Origin.Atom.number g.Loan.Atom.number g.Point.Atom.number g.Variable.Atom.number g.Path.Atom.number in
     let d = the c.args.call.now in
     let t = c.args.t.now in
-    record { does = barred rows bounds grew (phase c.args.state) d _ t (ap the c.in-Advance.is) (not_running_advance c.in-Advance.budget c.args.state c.in-default-state-3.not-Running); kept = refl }
+    record { does = barred rows bounds grew (phase c.args.state) d _ t (ap the c.in-Advance.is) (not_running_advance c.in-Advance.budget c.args.state c.in_default-state-3.not-Running); kept = refl }
 
 pub returns-in-Ok : goal.returns-in-Ok
 returns-in-Ok g c =
@@ -131,15 +131,15 @@ returns-in-Err g c =
       kept = refl;
     }
 
-pub returns-in-default-state-4 : goal.returns-in-default-state-4
-returns-in-default-state-4 g c =
+pub returns-in_default-state-4 : goal.returns-in_default-state-4
+returns-in_default-state-4 g c =
     let rows = g.T.Table.rows in
     let bounds = g.T.Table.bounds in
     let grew = g.T.Table.grew in
     let the = deed {F = g.row.F.Denot} g.Origin.Atom.number g.Loan.Atom.number g.Point.Atom.number g.Variable.Atom.number g.Path.Atom.number in
     let d = the c.args.call.now in
     let t = c.args.t.now in
-    record { does = barred rows bounds grew (phase c.args.state) d _ t (ap the c.in-Settle.is) (not_running_settle c.args.state c.in-default-state-4.not-Running); kept = refl }
+    record { does = barred rows bounds grew (phase c.args.state) d _ t (ap the c.in-Settle.is) (not_running_settle c.args.state c.in_default-state-4.not-Running); kept = refl }
 
 pub returns-in-Done : goal.returns-in-Done
 returns-in-Done g c =
@@ -149,14 +149,14 @@ returns-in-Done g c =
     let the = deed {F = g.row.F.Denot} g.Origin.Atom.number g.Loan.Atom.number g.Point.Atom.number g.Variable.Atom.number g.Path.Atom.number in
     let d = the c.args.call.now in
     let t = c.args.t.now in
-    record { does = told rows bounds grew (phase c.args.state) _ d _ _ _ t t (ap phase c.in-Done.is) (ap the c.in-Read.is) (Act.reads c.in-Read.q _ c.read-answer.ensures); kept = refl }
+    record { does = told rows bounds grew (phase c.args.state) _ d _ _ _ t t (ap phase c.in-Done.is) (ap the c.in-Read.is) (Act.reads c.in-Read.q _ c.read_answer.ensures); kept = refl }
 
-pub returns-in-default-state-5 : goal.returns-in-default-state-5
-returns-in-default-state-5 g c =
+pub returns-in_default-state-5 : goal.returns-in_default-state-5
+returns-in_default-state-5 g c =
     let rows = g.T.Table.rows in
     let bounds = g.T.Table.bounds in
     let grew = g.T.Table.grew in
     let the = deed {F = g.row.F.Denot} g.Origin.Atom.number g.Loan.Atom.number g.Point.Atom.number g.Variable.Atom.number g.Path.Atom.number in
     let d = the c.args.call.now in
     let t = c.args.t.now in
-    record { does = barred rows bounds grew (phase c.args.state) d _ t (ap the c.in-Read.is) (not_done_read c.in-Read.q c.args.state c.in-default-state-5.not-Done); kept = refl }
+    record { does = barred rows bounds grew (phase c.args.state) d _ t (ap the c.in-Read.is) (not_done_read c.in-Read.q c.args.state c.in_default-state-5.not-Done); kept = refl }

@@ -27,27 +27,27 @@ loop-step-preserved g c =
     let grew = g.T.Table.grew in
     let s = c.step-item.result in
     let k = c.loop-step.step-index in
-    let e : Event = c.in-ok-event.event in
+    let e : Event = c.in_ok-event.event in
     let whole = orders {F = g.row.F.Denot} g.Origin.Atom.number g.Loan.Atom.number g.Point.Atom.number g.Variable.Atom.number g.Path.Atom.number in
     let the = order {F = g.row.F.Denot} g.Origin.Atom.number g.Loan.Atom.number g.Point.Atom.number g.Variable.Atom.number g.Path.Atom.number s in
     let more = orders_more {F = g.row.F.Denot} g.Origin.Atom.number g.Loan.Atom.number g.Point.Atom.number g.Variable.Atom.number g.Path.Atom.number k c.args.script.now s c.loop-step-test.true c.step-item.is in (
       c.turn.ensures.kept ∙ i.0,
       trace_more rows bounds grew (whole (take k c.args.script.now)) _ (vec_items c.loop-step.log) _ (phases (vec_items c.loop-step.states)) (phases (vec_items c.turn.new.states))
-          c.args.t.now c.loop-step.t c.turn.new.t the e more c.in-ok-push.ensures.items i.1 c.in-ok-event.ensures.does,
+          c.args.t.now c.loop-step.t c.turn.new.t the e more c.in_ok-push.ensures.items i.1 c.in_ok-event.ensures.does,
     )
 
 nothing : {X Y : Type 0} (r : Result X Y) (y : Y) → r ≡ Err y → (P : X → Type 0) → IfOk r P
 nothing (Ok x) y e P = absurd (let z : ◌≡◌ {A = Prim.Native.Nat.ℕ} 0 1 = cc in omega arith)
 nothing (Err x) y e P = tt
 
-pub returns-in-err-event : goal.returns-in-err-event
-returns-in-err-event g c =
-    let p = err_from_is_err_and c.from-residual.result c.from-residual.ensures.1 in
+pub returns-in_err-event : goal.returns-in_err-event
+returns-in_err-event g c =
+    let p = err_from_is_err_and c.from_residual.result c.from_residual.ensures.1 in
     record { played = nothing _ p.0 p.1 _; promised = λ z. nothing _ p.0 p.1 _; atoms = λ z. nothing _ p.0 p.1 _; kept = c.turn.ensures.kept ∙ c.loop-step.invariant.0 }
 
-pub returns-in-err-push : goal.returns-in-err-push
-returns-in-err-push g c =
-    let p = err_from_is_err_and c.from-residual-in-err-push.result c.from-residual-in-err-push.ensures.1 in
+pub returns-in_err-push : goal.returns-in_err-push
+returns-in_err-push g c =
+    let p = err_from_is_err_and c.from_residual-in_err-push.result c.from_residual-in_err-push.ensures.1 in
     record { played = nothing _ p.0 p.1 _; promised = λ z. nothing _ p.0 p.1 _; atoms = λ z. nothing _ p.0 p.1 _; kept = c.turn.ensures.kept ∙ c.loop-step.invariant.0 }
 
 pub returns : goal.returns

@@ -6,12 +6,12 @@ use Rattle.runs.specs.Traces.{deed}
 use Rattle.runs.proofs.Turns.{begins_run, begins_not, goes_nowhere, goes_on, on_run}
 use Rattle.runs.proofs.play.turn.Goals as goal
 
-pub returns-in-ok-push : goal.returns-in-ok-push
-returns-in-ok-push g c =
+pub returns-in_ok-push : goal.returns-in_ok-push
+returns-in_ok-push g c =
     let the = deed {F = g.row.F.Denot} g.Origin.Atom.number g.Loan.Atom.number g.Point.Atom.number g.Variable.Atom.number g.Path.Atom.number in
     record {
       does = begins_run g.T.Table.rows g.T.Table.bounds g.T.Table.grew (vec_items c.args.states.now) _ c.args.t.now c.args.step.now.run (the c.args.step.now.call) c.in-Ok.filling
-          (ap the c.in-Begin.is) c.in-Ok.ensures c.in-ok-push.ensures.items;
+          (ap the c.in-Begin.is) c.in-Ok.ensures c.in_ok-push.ensures.items;
       kept = refl;
     }
 
@@ -32,7 +32,7 @@ returns-then-i-len g c =
     let out : length (vec_items c.args.states.now) ≤ c.args.step.now.run = omega (arith, n, k) in
     record {
       does = goes_nowhere g.T.Table.rows g.T.Table.bounds g.T.Table.grew (vec_items c.args.states.now) c.args.t.now c.args.step.now.run (the c.args.step.now.call) out
-          (on_run {F = g.row.F.Denot} g.Origin.Atom.number g.Loan.Atom.number g.Point.Atom.number g.Variable.Atom.number g.Path.Atom.number c.args.step.now.call c.in-default.not-Begin);
+          (on_run {F = g.row.F.Denot} g.Origin.Atom.number g.Loan.Atom.number g.Point.Atom.number g.Variable.Atom.number g.Path.Atom.number c.args.step.now.call c.in_default.not-Begin);
       kept = refl;
     }
 
@@ -45,7 +45,7 @@ returns g c =
     let k = c.args.states.now.ok.0 in
     let lt : i < length ss = omega (arith, n, k) in
     let was : c.replace-state.result ≡ get_or ss i Moved = c.replace-state.ensures.value ∙ get_or_read ss i c.index-mut.result.now lt c.index-mut.ensures.value Moved in
-    let o = on_run {F = g.row.F.Denot} g.Origin.Atom.number g.Loan.Atom.number g.Point.Atom.number g.Variable.Atom.number g.Path.Atom.number c.args.step.now.call c.in-default.not-Begin in
+    let o = on_run {F = g.row.F.Denot} g.Origin.Atom.number g.Loan.Atom.number g.Point.Atom.number g.Variable.Atom.number g.Path.Atom.number c.args.step.now.call c.in_default.not-Begin in
     record {
       does = goes_on g.T.Table.rows g.T.Table.bounds g.T.Table.grew ss _ c.args.t.now c.act-state.new.t i (the c.args.step.now.call) c.act-state.result.1 c.replace-state.result c.act-state.result.0
           was (set-set ss i c.replace-state.new.dest c.act-state.result.0) (c.act-state.ensures.does o);

@@ -20,16 +20,16 @@ returns-then-r-relation g c =
     let none = ap length (of_done k c.loop-r.from c.in-Some.r xs law.ascending e later) in
     omega arith
 
-pub overflow-add-n : goal.overflow-add-n
-overflow-add-n g c =
+pub overflow_add-n : goal.overflow_add-n
+overflow_add-n g c =
     let xs = g.Self.Table.rows c.args.self.now in
     let law = g.Self.Table.lawful c.args.self.now in
     let s = stepped c.args.relation c.loop-r.from c.in-Some.r xs law.ascending c.in-Some.ensures c.if-r-relation.false in
     let few = length_of c.args.relation xs in
     search rules
 
-pub overflow-add-from : goal.overflow-add-from
-overflow-add-from g c =
+pub overflow_add-from : goal.overflow_add-from
+overflow_add-from g c =
     let xs = g.Self.Table.rows c.args.self.now in
     let law = g.Self.Table.lawful c.args.self.now in
     let w = (g.Self.Table.bounds c.args.self.now).width in

@@ -10,10 +10,10 @@ use Rattle.table.proofs.Table.next_like.Goals as goal
 pub loop-start-init : goal.loop-start-init
 loop-start-init g c = (refl, before_irrefl c.args.from, λ y h s. (sought_is _ _ y s).above)
 
-pub returns-in-default-next : goal.returns-in-default-next
-returns-in-default-next g c =
+pub returns-in_default-next : goal.returns-in_default-next
+returns-in_default-next g c =
     come_none (g.Self.Table.rows c.args.self.now) (g.Self.Table.lawful c.args.self.now).ascending c.args.from c.args.like
-    c.loop-start.at c.loop-start.invariant c.in-Some.start c.in-Some.ensures c.in-default-next.ensures
+    c.loop-start.at c.loop-start.invariant c.in-Some.start c.in-Some.ensures c.in_default-next.ensures
 
 pub returns-then-r-from : goal.returns-then-r-from
 returns-then-r-from g c =

@@ -10,8 +10,8 @@ pub loop-r-init : goal.loop-r-init
 unfolding taken
 loop-r-init g c = (filled_none g.T.Table.rows g.T.Table.bounds g.T.Table.grew c.args.t.now, refl)
 
-pub overflow-add-added : goal.overflow-add-added
-overflow-add-added g c =
+pub overflow_add-added : goal.overflow_add-added
+overflow_add-added g c =
     let xs = c.args.batch.now in
     let f = taken_few (g.T.Table.bounds c.args.t.now) (g.T.Table.rows c.args.t.now) (take c.loop-r.r-index xs) in
     let l = length-take c.loop-r.r-index xs in
@@ -31,8 +31,8 @@ loop-r-preserved g c =
     let n = taken_counts g.T.Table.rows g.T.Table.bounds g.T.Table.grew s (take i xs) c.loop-r.t r c.add.result f a.answer in
     let k : c.if-went_in.added ≡ c.loop-r.added + cond (went_in c.add.result) 1 0 =
     elim c.if-went_in.branch [
-      | then-went_in w ↦ w.added-is ∙ ap (λ b. c.loop-r.added + cond b 1 0) w.if-went-in.ensures
-      | else-went_in w ↦ w.added-is ∙ sym (add-zero c.loop-r.added) ∙ ap (λ b. c.loop-r.added + cond b 1 0) w.if-went-in.ensures
+      | then-went_in w ↦ w.added-is ∙ ap (λ b. c.loop-r.added + cond b 1 0) w.if-went_in.ensures
+      | else-went_in w ↦ w.added-is ∙ sym (add-zero c.loop-r.added) ∙ ap (λ b. c.loop-r.added + cond b 1 0) w.if-went_in.ensures
     ] in (
       subst (λ rs. Filled g.T.Table.rows g.T.Table.bounds g.T.Table.grew (g.T.Table.bounds s) s rs c.add.new.self) e m,
       k ∙ ap (λ x. x + cond (went_in c.add.result) 1 0) c.loop-r.invariant.1 ∙ sym n ∙ ap (λ rs. length (taken (g.T.Table.bounds s) (g.T.Table.rows s) rs)) e,

@@ -15,9 +15,9 @@ returns g c =
     let grown : Q → Row → Q → Type 0 = λ q r p. grew q.now r p.now × (p.ghost_name ≡ q.ghost_name) in
     let rs = c.args.batch.now in
     let m = capped c.args.own.most (bounds c.args.below.now) in
-    let q : Q = record { ref_ptr = c.args.below.ref_ptr; ghost_name = c.add-under-arg·1.given; now = c.args.below.now } in
-    let p : Q = c.add-under-lent.result in
-    let f : Filled (λ x. rows x.now) (λ x. bounds x.now) grown m q rs p = c.add-under-lent.ensures in
+    let q : Q = record { ref_ptr = c.args.below.ref_ptr; ghost_name = c.add_under-arg-1.given; now = c.args.below.now } in
+    let p : Q = c.add_under-lent.result in
+    let f : Filled (λ x. rows x.now) (λ x. bounds x.now) grown m q rs p = c.add_under-lent.ensures in
     let u = filled_under {S = S} {Q = Q} rows bounds grew (λ x. bounds x.now) grown (λ x. x.now) (λ x r y h. h.0) g.T.Table.steady m q rs p f in
     let k = grown_keeps {S = Q} grown (λ x. x.ghost_name) (λ x r y h. h.1) q (taken m (rows q.now) rs) p f.grown in
-    subst (λ t. Filled rows bounds grew m c.args.below.now rs t) (sym (c.below·1.given.1 (sym k))) u
+    subst (λ t. Filled rows bounds grew m c.args.below.now rs t) (sym (c.below-1.given.1 (sym k))) u

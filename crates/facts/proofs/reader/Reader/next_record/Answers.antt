@@ -22,17 +22,17 @@ returns-in-len1 c =
     let a : Answered at bs (Err (LoneByte at)) at bs = (refl, omega (arith, ltb-true, ltb-false), refl, refl) in
     record { stands = a; only = λ s n cs b. answered_once at at n bs bs cs (Err (LoneByte at)) s a b }
 
-pub returns-in-default : goal.returns-in-default
-returns-in-default c =
+pub returns-in_default : goal.returns-in_default
+returns-in_default c =
     let at = c.args.self.now.offset in
     let bs = c.args.self.now.left.now in
     let two : 2 ≤ length bs = omega (arith, ltb-false) in
     let a : Answered at bs (Err (UnknownMark at)) at bs =
-    (refl, (two, λ k m. c.in-default.ensures k m.0 (sym m.1 ∙ mark_two bs two)), refl, refl) in
+    (refl, (two, λ k m. c.in_default.ensures k m.0 (sym m.1 ∙ mark_two bs two)), refl, refl) in
     record { stands = a; only = λ s n cs b. answered_once at at n bs bs cs (Err (UnknownMark at)) s a b }
 
-pub returns-in-default-row-of : goal.returns-in-default-row-of
-returns-in-default-row-of c =
+pub returns-in_default-row_of : goal.returns-in_default-row_of
+returns-in_default-row_of c =
     let at = c.args.self.now.offset in
     let bs = c.args.self.now.left.now in
     let two : 2 ≤ length bs = omega (arith, ltb-false) in
@@ -40,20 +40,20 @@ returns-in-default-row-of c =
     let k = c.in-Some.relation in
     let long : length bs ≡ 2 + length (take (length bs - 2) (drop 2 bs)) =
     ap length (front_two bs two) ∙ omega arith in
-    let short : length bs < 2 + 2 * places k = omega (arith, long, c.in-default-row-of.ensures) in
+    let short : length bs < 2 + 2 * places k = omega (arith, long, c.in_default-row_of.ensures) in
     let a : Answered at bs (Err (Cut at)) at bs =
     (refl, (k, ((m.0, mark_two bs two ∙ sym m.1), short)), refl, refl) in
     record { stands = a; only = λ s n cs b. answered_once at at n bs bs cs (Err (Cut at)) s a b }
 
-pub returns-in-Some-row-of : goal.returns-in-Some-row-of
-returns-in-Some-row-of c =
+pub returns-in-Some-row_of : goal.returns-in-Some-row_of
+returns-in-Some-row_of c =
     let at = c.args.self.now.offset in
     let bs = c.args.self.now.left.now in
     let two : 2 ≤ length bs = omega (arith, ltb-false) in
     let m = c.in-Some.ensures in
-    let e = c.in-Some-row-of.ensures in
-    let row = c.in-Some-row-of.row in
-    let left = c.in-Some-row-of.left.now in
+    let e = c.in-Some-row_of.ensures in
+    let row = c.in-Some-row_of.row in
+    let left = c.in-Some-row_of.left.now in
     let here : mark row.relation ≡ get_or bs 0 0 ∷ get_or bs 1 0 ∷ [] = ap mark e.0 ∙ m.1 in
     let whole : bs ≡ written row ++ left =
     front_two bs two ∙ ap (λ t. get_or bs 0 0 ∷ get_or bs 1 0 ∷ t) e.2

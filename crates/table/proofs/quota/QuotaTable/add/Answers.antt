@@ -21,9 +21,9 @@ returns-then-holds g c =
     let p : admissible (g.T.Table.bounds q.below).width c.args.r ≡ true = ap (λ m. admissible m.width c.args.r) (sym c.limits-m.ensures) ∙ sym c.if-not-admissible.ensures in
     record { answer = adds.held (capped q.own.most (g.T.Table.bounds q.below)) (g.T.Table.rows q.below) c.args.r p (sym c.if-holds.ensures); after = refl; kept = refl; changed = refl }
 
-pub returns-then-count-of-of : goal.returns-then-count-of-of
+pub returns-then-count_of-of : goal.returns-then-count_of-of
 unfolding rows_after
-returns-then-count-of-of g c =
+returns-then-count_of-of g c =
     let q = c.args.self.now in
     let law = g.T.Table.lawful q.below in
     let m = g.T.Table.bounds q.below in
@@ -31,7 +31,7 @@ returns-then-count-of-of g c =
     let e : length q.own.most ≡ length m.each = q.own.forty ∙ sym law.forty in
     let p : admissible m.width c.args.r ≡ true = ap (λ m. admissible m.width c.args.r) (sym c.limits-m.ensures) ∙ sym c.if-not-admissible.ensures in
     record {
-      answer = adds.filled (capped q.own.most m) xs c.args.r p (sym c.if-holds.ensures) (adds.capped_full m xs c.args.r q.own.most e (omega (arith, c.count-of.ensures, c.of.ensures)));
+      answer = adds.filled (capped q.own.most m) xs c.args.r p (sym c.if-holds.ensures) (adds.capped_full m xs c.args.r q.own.most e (omega (arith, c.count_of.ensures, c.of.ensures)));
       after = refl;
       kept = refl;
       changed = refl;
