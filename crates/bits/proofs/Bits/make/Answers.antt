@@ -35,12 +35,17 @@ empty c =
     ∙ cleared_rows c.args.width (words_for c.args.width) c.args.words.now c.base.result (omega arith)
 
 pub invariant_of-result : goal.invariant_of-result
-invariant_of-result c = (omega arith, (refl, (omega arith, (ap length (no_rows 1 c.args.words.now), tt))))
+invariant_of-result c = record { narrow = omega arith; sized = refl; room = omega arith; counted = ap length (no_rows 1 c.args.words.now) }
 
 pub invariant_of-result-2 : goal.invariant_of-result-2
 invariant_of-result-2 c =
     let f = opened (length c.args.words.now) c.args.width c.in-Ok.ensures.answer in
-    (f.narrow, (c.base.ensures, (omega (arith, f.room, c.base.ensures, c.loop-i.auto.words), (ap length (empty c), tt))))
+    record {
+      narrow = f.narrow;
+      sized = c.base.ensures;
+      room = omega (arith, f.room, c.base.ensures, c.loop-i.auto.words);
+      counted = ap length (empty c);
+    }
 
 pub returns-in_default : goal.returns-in_default
 returns-in_default c =

@@ -25,4 +25,9 @@ invariant_of-self c =
     let ws = s.words.now in
     let v : set ws (i / 64) (bit_or (get_or ws (i / 64) 0) ((1 * 2 ^ (i % 64)) % 2 ^ 64)) ≡ raised ws i = ap (λ m. set ws (i / 64) (bit_or (get_or ws (i / 64) 0) m)) (one_shl (i % 64) 64 (omega arith)) in
     let n = count_raised s.width ws s.places i (within s.width s.live s.places s.sized) s.room c.requires.within c.requires.fresh in
-    (s.narrow, (s.sized, ((simp length-set s.room), (ap (λ vs. length (marked s.width vs 0 s.places)) v ∙ n ∙ ap (λ k. k + 1) s.counted, tt))))
+    record {
+      narrow = s.narrow;
+      sized = s.sized;
+      room = simp length-set s.room;
+      counted = ap (λ vs. length (marked s.width vs 0 s.places)) v ∙ n ∙ ap (λ k. k + 1) s.counted;
+    }
