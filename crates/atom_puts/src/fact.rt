@@ -31,7 +31,7 @@ pub enum Fact<F: FactTypes> {
 
 // The row of a fact: its relation, and the numbers of its atoms.
 pub fn row_of<F: FactTypes>(fact: &Fact<F>) -> Row
-    ensures { result ≡ row_of Origin-as-Atom.number Loan-as-Atom.number Point-as-Atom.number Variable-as-Atom.number Path-as-Atom.number fact.now }
+    ensures { result ≡ row_of F.Origin.Atom.number F.Loan.Atom.number F.Point.Atom.number F.Variable.Atom.number F.Path.Atom.number fact.now }
 {
     match fact {
         Fact::LoanIssuedAt(origin, loan, point) => row3(

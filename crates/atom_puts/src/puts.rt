@@ -17,7 +17,7 @@ pub fn put_fact<F: FactTypes, T: Table>(
     t: &mut T,
     fact: &Fact<F>,
 ) -> Result<Outcome, RunFault>
-    ensures { Putting T.Table.rows T.Table.bounds T.Table.grew t.old filling.old.facts (row_of Origin-as-Atom.number Loan-as-Atom.number Point-as-Atom.number Variable-as-Atom.number Path-as-Atom.number fact.now) result t.new filling.new.facts }
+    ensures { Putting T.Table.rows T.Table.bounds T.Table.grew t.old filling.old.facts (row_of F.Origin.Atom.number F.Loan.Atom.number F.Point.Atom.number F.Variable.Atom.number F.Path.Atom.number fact.now) result t.new filling.new.facts }
 {
     filling.put(t, row_of(fact))
 }

@@ -16,7 +16,7 @@ use table::Table;
 
 // A call on a run, if it is in the state that the call takes.
 fn act<F: FactTypes, T: Table>(t: &mut T, state: State, call: &Call<F>) -> (State, Event)
-    ensures does { OnRun (deed Origin-as-Atom.number Loan-as-Atom.number Point-as-Atom.number Variable-as-Atom.number Path-as-Atom.number call.now) → Act T.Table.rows T.Table.bounds T.Table.grew (phase state) t.old (deed Origin-as-Atom.number Loan-as-Atom.number Point-as-Atom.number Variable-as-Atom.number Path-as-Atom.number call.now) result.1 (phase result.0) t.new }
+    ensures does { OnRun (deed F.Origin.Atom.number F.Loan.Atom.number F.Point.Atom.number F.Variable.Atom.number F.Path.Atom.number call.now) → Act T.Table.rows T.Table.bounds T.Table.grew (phase state) t.old (deed F.Origin.Atom.number F.Loan.Atom.number F.Point.Atom.number F.Variable.Atom.number F.Path.Atom.number call.now) result.1 (phase result.0) t.new }
     ensures kept { T.Table.bounds t.new ≡ T.Table.bounds t.old }
 {
     match call {
@@ -78,7 +78,7 @@ fn turn<F: FactTypes, T: Table>(
     states: &mut Vec<State>,
     step: &Step<F>,
 ) -> Result<Event, AllocError>
-    ensures does { IfOk result (λ e. Turn T.Table.rows T.Table.bounds T.Table.grew (phases states.old.items) t.old (record { run = step.now.run; deed = deed Origin-as-Atom.number Loan-as-Atom.number Point-as-Atom.number Variable-as-Atom.number Path-as-Atom.number step.now.call }) e (phases states.new.items) t.new) }
+    ensures does { IfOk result (λ e. Turn T.Table.rows T.Table.bounds T.Table.grew (phases states.old.items) t.old (record { run = step.now.run; deed = deed F.Origin.Atom.number F.Loan.Atom.number F.Point.Atom.number F.Variable.Atom.number F.Path.Atom.number step.now.call }) e (phases states.new.items) t.new) }
     ensures kept { T.Table.bounds t.new ≡ T.Table.bounds t.old }
 {
     if let Call::Begin = step.call {
@@ -107,9 +107,9 @@ pub fn play<F: FactTypes, T: Table>(
     t: &mut T,
     script: &[Step<F>],
 ) -> Result<Vec<Event>, AllocError>
-    ensures played { IfOk result (λ log. Played T.Table.rows T.Table.bounds T.Table.grew (orders Origin-as-Atom.number Loan-as-Atom.number Point-as-Atom.number Variable-as-Atom.number Path-as-Atom.number script.now) log.items t.old t.new) }
+    ensures played { IfOk result (λ log. Played T.Table.rows T.Table.bounds T.Table.grew (orders F.Origin.Atom.number F.Loan.Atom.number F.Point.Atom.number F.Variable.Atom.number F.Path.Atom.number script.now) log.items t.old t.new) }
     ensures promised { T.Table.rows t.old ≡ [] → IfOk result (λ log. Promised log.items (T.Table.rows t.new)) }
-    ensures atoms { T.Table.rows t.old ≡ [] → IfOk result (λ log. ToldInAtoms Origin-as-Atom.number Loan-as-Atom.number Point-as-Atom.number Variable-as-Atom.number Path-as-Atom.number script.now log.items (T.Table.rows t.new)) }
+    ensures atoms { T.Table.rows t.old ≡ [] → IfOk result (λ log. ToldInAtoms F.Origin.Atom.number F.Loan.Atom.number F.Point.Atom.number F.Variable.Atom.number F.Path.Atom.number script.now log.items (T.Table.rows t.new)) }
     ensures kept { T.Table.bounds t.new ≡ T.Table.bounds t.old }
 {
     let mut states = Vec::new(heap);

@@ -1,6 +1,6 @@
 -- The cases, by computation.
 use Rattle.std.proofs.Common.{◌≡◌, ℕ, Bool, true, not, ◌&&◌, eqb, List, [], ◌∷◌, ◌++◌, length, sym, refl, ap, ◌∙◌, subst, ⊎_elim}
-use Rattle.std.proofs.lemmas.Bool.{and_parts, not_true, eq-eqb, cond-true, cond_both}
+use Rattle.std.proofs.lemmas.Bool.{and_parts, not-true, eq-eqb, cond-true, cond_both}
 use Rattle.rows.specs.declared.row.Row.{Row}
 use Rattle.rows.specs.Rows.{has, same, of_relation}
 use Rattle.rows.specs.Relations.{universal_region, cfg_edge, subset_base, child_path, path_moved_at_base, path_accessed_at_base, move_error, origin_live_on_entry, subset, errors, subset_errors, potential_errors, potential_subset_errors}
@@ -41,12 +41,12 @@ not_both : (l d : List Row) (r : Row) → disjoint l d ≡ true → Among l r �
 not_both [] d r h m = absurd (has_none r m)
 not_both (s ∷ l) d r h m =
     let a = and_parts (not (has d s)) (disjoint l d) h in
-    has_cons s l r m (λ e. subst (λ t. ¬ Among d t) e (T_not _ (not_true _ a.0))) (λ k. not_both l d r a.1 k)
+    has_cons s l r m (λ e. subst (λ t. ¬ Among d t) e (T_not _ (not-true _ a.0))) (λ k. not_both l d r a.1 k)
 
 is_distinct : (l : List Row) → distinct l ≡ true → Distinct l
 is_distinct [] h = tt
 is_distinct (r ∷ rs) h =
-    let a = and_parts (not (has rs r)) (distinct rs) h in (T_not _ (not_true _ a.0), is_distinct rs a.1)
+    let a = and_parts (not (has rs r)) (distinct rs) h in (T_not _ (not-true _ a.0), is_distinct rs a.1)
 
 -- rounds enough for each relation of the cases
 abbrev rounds : ℕ

@@ -1,6 +1,6 @@
 -- The proposals of clauses over listed rows, as a list: premises are matched one after the other against the rows.
 use Rattle.std.proofs.Common.{◌≡◌, ℕ, Bool, true, false, cond, not, ◌&&◌, ◌||◌, eqb, ◌≢◌, ◌⊎◌, List, [], ◌∷◌, ◌++◌, sym, refl, ap, ◌∙◌, subst, inl, inr, ⊎_elim}
-use Rattle.std.proofs.lemmas.Bool.{and_parts, and_from, or_cases, or_left, or_right, cases_Bool, eqb-true, eqb-false, eq-eqb, cond-true, cond-false, both_ways, not_true}
+use Rattle.std.proofs.lemmas.Bool.{and_parts, and_from, or_cases, or_left, or_right, cases_Bool, eqb-true, eqb-false, eq-eqb, cond-true, cond-false, both_ways, not-true}
 use Rattle.rows.specs.declared.row.Row.{Row}
 use Rattle.rows.specs.Rows.{has}
 use Rattle.rows.proofs.Order.{fields_same}
@@ -119,9 +119,9 @@ met_from d c v [] h = tt
 met_from d c v (holds s ∷ ps) h =
     let a = and_parts (has d (instance v s)) (all_met d c v ps) h in (T_from _ a.0, met_from d c v ps a.1)
 met_from d c v (lacks s ∷ ps) h =
-    let a = and_parts (not (has c (instance v s))) (all_met d c v ps) h in (T_not _ (not_true _ a.0), met_from d c v ps a.1)
+    let a = and_parts (not (has c (instance v s))) (all_met d c v ps) h in (T_not _ (not-true _ a.0), met_from d c v ps a.1)
 met_from d c v (differ x y ∷ ps) h =
-    let a = and_parts (not (eqb (value v x) (value v y))) (all_met d c v ps) h in (eqb-false _ _ (not_true _ a.0), met_from d c v ps a.1)
+    let a = and_parts (not (eqb (value v x) (value v y))) (all_met d c v ps) h in (eqb-false _ _ (not-true _ a.0), met_from d c v ps a.1)
 
 pub proposals_from : (d c : List Row) (qs : List Clause) (r : Row) → Among (proposals d c qs) r → SomeGives (Among d) (Among c) qs r
 proposals_from d c [] r h = absurd (has_none r h)
