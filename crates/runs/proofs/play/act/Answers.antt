@@ -13,7 +13,7 @@ returns-in-Filling g c =
     let rows = g.T.Table.rows in
     let bounds = g.T.Table.bounds in
     let grew = g.T.Table.grew in
-    let the = deed {F = g.row.F.Denot} g.Origin.Atom.number g.Loan.Atom.number g.Point.Atom.number g.Variable.Atom.number g.Path.Atom.number in
+    let the = deed {F = g.row.F.Denot} g.F.Origin.Atom.number g.F.Loan.Atom.number g.F.Point.Atom.number g.F.Variable.Atom.number g.F.Path.Atom.number in
     let d = the c.args.call.now in
     let t = c.args.t.now in
     let e = c.put-answer.ensures in
@@ -27,7 +27,7 @@ returns-in_default g c =
     let rows = g.T.Table.rows in
     let bounds = g.T.Table.bounds in
     let grew = g.T.Table.grew in
-    let the = deed {F = g.row.F.Denot} g.Origin.Atom.number g.Loan.Atom.number g.Point.Atom.number g.Variable.Atom.number g.Path.Atom.number in
+    let the = deed {F = g.row.F.Denot} g.F.Origin.Atom.number g.F.Loan.Atom.number g.F.Point.Atom.number g.F.Variable.Atom.number g.F.Path.Atom.number in
     let d = the c.args.call.now in
     let t = c.args.t.now in
     record { does = barred rows bounds grew (phase c.args.state) d _ t (ap the c.in-Put.is) (not_filling_put c.in-Put.r c.args.state c.in_default.not-Filling); kept = refl }
@@ -37,7 +37,7 @@ returns-in-Filling-state g c =
     let rows = g.T.Table.rows in
     let bounds = g.T.Table.bounds in
     let grew = g.T.Table.grew in
-    let the = deed {F = g.row.F.Denot} g.Origin.Atom.number g.Loan.Atom.number g.Point.Atom.number g.Variable.Atom.number g.Path.Atom.number in
+    let the = deed {F = g.row.F.Denot} g.F.Origin.Atom.number g.F.Loan.Atom.number g.F.Point.Atom.number g.F.Variable.Atom.number g.F.Path.Atom.number in
     let d = the c.args.call.now in
     let t = c.args.t.now in
     let e = c.put_fact-answer.ensures in
@@ -57,17 +57,17 @@ returns-in_default-state g c =
     let rows = g.T.Table.rows in
     let bounds = g.T.Table.bounds in
     let grew = g.T.Table.grew in
-    let the = deed {F = g.row.F.Denot} g.Origin.Atom.number g.Loan.Atom.number g.Point.Atom.number g.Variable.Atom.number g.Path.Atom.number in
+    let the = deed {F = g.row.F.Denot} g.F.Origin.Atom.number g.F.Loan.Atom.number g.F.Point.Atom.number g.F.Variable.Atom.number g.F.Path.Atom.number in
     let d = the c.args.call.now in
     let t = c.args.t.now in
-    record { does = barred rows bounds grew (phase c.args.state) d _ t (ap the c.in-PutFact.is) (not_filling_put (row_of g.Origin.Atom.number g.Loan.Atom.number g.Point.Atom.number g.Variable.Atom.number g.Path.Atom.number c.in-PutFact.fact) c.args.state c.in_default-state.not-Filling); kept = refl }
+    record { does = barred rows bounds grew (phase c.args.state) d _ t (ap the c.in-PutFact.is) (not_filling_put (row_of g.F.Origin.Atom.number g.F.Loan.Atom.number g.F.Point.Atom.number g.F.Variable.Atom.number g.F.Path.Atom.number c.in-PutFact.fact) c.args.state c.in_default-state.not-Filling); kept = refl }
 
 pub returns-in-Filling-state-2 : goal.returns-in-Filling-state-2
 returns-in-Filling-state-2 g c =
     let rows = g.T.Table.rows in
     let bounds = g.T.Table.bounds in
     let grew = g.T.Table.grew in
-    let the = deed {F = g.row.F.Denot} g.Origin.Atom.number g.Loan.Atom.number g.Point.Atom.number g.Variable.Atom.number g.Path.Atom.number in
+    let the = deed {F = g.row.F.Denot} g.F.Origin.Atom.number g.F.Loan.Atom.number g.F.Point.Atom.number g.F.Variable.Atom.number g.F.Path.Atom.number in
     let d = the c.args.call.now in
     let t = c.args.t.now in
     record { does = told rows bounds grew (phase c.args.state) _ d _ Started _ t _ (ap phase c.in-Filling-state-2.is) (ap the c.in-Start.is) (Act.starts _); kept = refl }
@@ -77,7 +77,7 @@ returns-in_default-state-2 g c =
     let rows = g.T.Table.rows in
     let bounds = g.T.Table.bounds in
     let grew = g.T.Table.grew in
-    let the = deed {F = g.row.F.Denot} g.Origin.Atom.number g.Loan.Atom.number g.Point.Atom.number g.Variable.Atom.number g.Path.Atom.number in
+    let the = deed {F = g.row.F.Denot} g.F.Origin.Atom.number g.F.Loan.Atom.number g.F.Point.Atom.number g.F.Variable.Atom.number g.F.Path.Atom.number in
     let d = the c.args.call.now in
     let t = c.args.t.now in
     record { does = barred rows bounds grew (phase c.args.state) d _ t (ap the c.in-Start.is) (not_filling_start c.args.state c.in_default-state-2.not-Filling); kept = refl }
@@ -87,7 +87,7 @@ returns-in-Running g c =
     let rows = g.T.Table.rows in
     let bounds = g.T.Table.bounds in
     let grew = g.T.Table.grew in
-    let the = deed {F = g.row.F.Denot} g.Origin.Atom.number g.Loan.Atom.number g.Point.Atom.number g.Variable.Atom.number g.Path.Atom.number in
+    let the = deed {F = g.row.F.Denot} g.F.Origin.Atom.number g.F.Loan.Atom.number g.F.Point.Atom.number g.F.Variable.Atom.number g.F.Path.Atom.number in
     let d = the c.args.call.now in
     let t = c.args.t.now in
     let e = c.advance-answer.ensures in
@@ -101,7 +101,7 @@ returns-in_default-state-3 g c =
     let rows = g.T.Table.rows in
     let bounds = g.T.Table.bounds in
     let grew = g.T.Table.grew in
-    let the = deed {F = g.row.F.Denot} g.Origin.Atom.number g.Loan.Atom.number g.Point.Atom.number g.Variable.Atom.number g.Path.Atom.number in
+    let the = deed {F = g.row.F.Denot} g.F.Origin.Atom.number g.F.Loan.Atom.number g.F.Point.Atom.number g.F.Variable.Atom.number g.F.Path.Atom.number in
     let d = the c.args.call.now in
     let t = c.args.t.now in
     record { does = barred rows bounds grew (phase c.args.state) d _ t (ap the c.in-Advance.is) (not_running_advance c.in-Advance.budget c.args.state c.in_default-state-3.not-Running); kept = refl }
@@ -111,7 +111,7 @@ returns-in-Ok g c =
     let rows = g.T.Table.rows in
     let bounds = g.T.Table.bounds in
     let grew = g.T.Table.grew in
-    let the = deed {F = g.row.F.Denot} g.Origin.Atom.number g.Loan.Atom.number g.Point.Atom.number g.Variable.Atom.number g.Path.Atom.number in
+    let the = deed {F = g.row.F.Denot} g.F.Origin.Atom.number g.F.Loan.Atom.number g.F.Point.Atom.number g.F.Variable.Atom.number g.F.Path.Atom.number in
     let d = the c.args.call.now in
     let t = c.args.t.now in
     record { does = told rows bounds grew (phase c.args.state) _ d _ _ _ t t (ap phase c.in-Running-state.is) (ap the c.in-Settle.is) (Act.settles tt c.in-Ok.ensures.1); kept = refl }
@@ -121,7 +121,7 @@ returns-in-Err g c =
     let rows = g.T.Table.rows in
     let bounds = g.T.Table.bounds in
     let grew = g.T.Table.grew in
-    let the = deed {F = g.row.F.Denot} g.Origin.Atom.number g.Loan.Atom.number g.Point.Atom.number g.Variable.Atom.number g.Path.Atom.number in
+    let the = deed {F = g.row.F.Denot} g.F.Origin.Atom.number g.F.Loan.Atom.number g.F.Point.Atom.number g.F.Variable.Atom.number g.F.Path.Atom.number in
     let d = the c.args.call.now in
     let t = c.args.t.now in
     let e = c.in-Err.ensures in
@@ -136,7 +136,7 @@ returns-in_default-state-4 g c =
     let rows = g.T.Table.rows in
     let bounds = g.T.Table.bounds in
     let grew = g.T.Table.grew in
-    let the = deed {F = g.row.F.Denot} g.Origin.Atom.number g.Loan.Atom.number g.Point.Atom.number g.Variable.Atom.number g.Path.Atom.number in
+    let the = deed {F = g.row.F.Denot} g.F.Origin.Atom.number g.F.Loan.Atom.number g.F.Point.Atom.number g.F.Variable.Atom.number g.F.Path.Atom.number in
     let d = the c.args.call.now in
     let t = c.args.t.now in
     record { does = barred rows bounds grew (phase c.args.state) d _ t (ap the c.in-Settle.is) (not_running_settle c.args.state c.in_default-state-4.not-Running); kept = refl }
@@ -146,17 +146,17 @@ returns-in-Done g c =
     let rows = g.T.Table.rows in
     let bounds = g.T.Table.bounds in
     let grew = g.T.Table.grew in
-    let the = deed {F = g.row.F.Denot} g.Origin.Atom.number g.Loan.Atom.number g.Point.Atom.number g.Variable.Atom.number g.Path.Atom.number in
+    let the = deed {F = g.row.F.Denot} g.F.Origin.Atom.number g.F.Loan.Atom.number g.F.Point.Atom.number g.F.Variable.Atom.number g.F.Path.Atom.number in
     let d = the c.args.call.now in
     let t = c.args.t.now in
-    record { does = told rows bounds grew (phase c.args.state) _ d _ _ _ t t (ap phase c.in-Done.is) (ap the c.in-Read.is) (Act.reads c.in-Read.q _ c.read_answer.ensures); kept = refl }
+    record { does = told rows bounds grew (phase c.args.state) _ d _ _ _ t t (ap phase c.in-Done.is) (ap the c.in-Read.is) (Act.reads c.in-Read.q _ c.read-answer.ensures); kept = refl }
 
 pub returns-in_default-state-5 : goal.returns-in_default-state-5
 returns-in_default-state-5 g c =
     let rows = g.T.Table.rows in
     let bounds = g.T.Table.bounds in
     let grew = g.T.Table.grew in
-    let the = deed {F = g.row.F.Denot} g.Origin.Atom.number g.Loan.Atom.number g.Point.Atom.number g.Variable.Atom.number g.Path.Atom.number in
+    let the = deed {F = g.row.F.Denot} g.F.Origin.Atom.number g.F.Loan.Atom.number g.F.Point.Atom.number g.F.Variable.Atom.number g.F.Path.Atom.number in
     let d = the c.args.call.now in
     let t = c.args.t.now in
     record { does = barred rows bounds grew (phase c.args.state) d _ t (ap the c.in-Read.is) (not_done_read c.in-Read.q c.args.state c.in_default-state-5.not-Done); kept = refl }

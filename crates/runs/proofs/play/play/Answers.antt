@@ -28,9 +28,9 @@ loop-step-preserved g c =
     let s = c.step-item.result in
     let k = c.loop-step.step-index in
     let e : Event = c.in_ok-event.event in
-    let whole = orders {F = g.row.F.Denot} g.Origin.Atom.number g.Loan.Atom.number g.Point.Atom.number g.Variable.Atom.number g.Path.Atom.number in
-    let the = order {F = g.row.F.Denot} g.Origin.Atom.number g.Loan.Atom.number g.Point.Atom.number g.Variable.Atom.number g.Path.Atom.number s in
-    let more = orders_more {F = g.row.F.Denot} g.Origin.Atom.number g.Loan.Atom.number g.Point.Atom.number g.Variable.Atom.number g.Path.Atom.number k c.args.script.now s c.loop-step-test.true c.step-item.is in (
+    let whole = orders {F = g.row.F.Denot} g.F.Origin.Atom.number g.F.Loan.Atom.number g.F.Point.Atom.number g.F.Variable.Atom.number g.F.Path.Atom.number in
+    let the = order {F = g.row.F.Denot} g.F.Origin.Atom.number g.F.Loan.Atom.number g.F.Point.Atom.number g.F.Variable.Atom.number g.F.Path.Atom.number s in
+    let more = orders_more {F = g.row.F.Denot} g.F.Origin.Atom.number g.F.Loan.Atom.number g.F.Point.Atom.number g.F.Variable.Atom.number g.F.Path.Atom.number k c.args.script.now s c.loop-step-test.true c.step-item.is in (
       c.turn.ensures.kept ∙ i.0,
       trace_more rows bounds grew (whole (take k c.args.script.now)) _ (vec_items c.loop-step.log) _ (phases (vec_items c.loop-step.states)) (phases (vec_items c.turn.new.states))
           c.args.t.now c.loop-step.t c.turn.new.t the e more c.in_ok-push.ensures.items i.1 c.in_ok-event.ensures.does,
@@ -54,7 +54,7 @@ pub returns : goal.returns
 returns g c =
     let i = c.loop-step.invariant in
     let all = take_all c.loop-step.step-index c.args.script.now c.loop-step-test.false in
-    let whole = orders {F = g.row.F.Denot} g.Origin.Atom.number g.Loan.Atom.number g.Point.Atom.number g.Variable.Atom.number g.Path.Atom.number in
+    let whole = orders {F = g.row.F.Denot} g.F.Origin.Atom.number g.F.Loan.Atom.number g.F.Point.Atom.number g.F.Variable.Atom.number g.F.Path.Atom.number in
     let rows = g.T.Table.rows in
     let bounds = g.T.Table.bounds in
     let grew = g.T.Table.grew in
@@ -64,9 +64,9 @@ returns g c =
     record {
       played = (ps, trace);
       promised = λ empty. promised rows bounds grew g.T.Table.lawful trace empty;
-      atoms = λ empty. told g.row.F.Denot g.Origin.Atom.number g.Loan.Atom.number g.Point.Atom.number g.Variable.Atom.number g.Path.Atom.number
-          g.Origin.Atom.atom g.Loan.Atom.atom g.Point.Atom.atom g.Variable.Atom.atom g.Path.Atom.atom
-          g.met.Origin.Atom.back g.met.Loan.Atom.back g.met.Point.Atom.back g.met.Variable.Atom.back g.met.Path.Atom.back
+      atoms = λ empty. told g.row.F.Denot g.F.Origin.Atom.number g.F.Loan.Atom.number g.F.Point.Atom.number g.F.Variable.Atom.number g.F.Path.Atom.number
+          g.F.Origin.Atom.atom g.F.Loan.Atom.atom g.F.Point.Atom.atom g.F.Variable.Atom.atom g.F.Path.Atom.atom
+          g.met.F.Origin.Atom.back g.met.F.Loan.Atom.back g.met.F.Point.Atom.back g.met.F.Variable.Atom.back g.met.F.Path.Atom.back
           rows bounds grew g.T.Table.lawful c.args.script.now trace empty;
       kept = i.0;
     }
