@@ -1,5 +1,5 @@
 -- What a put passes on, where the table takes the row.
-use Rattle.std.proofs.Common.{◌≡◌, ℕ, ◌<◌, ◌≤◌, Bool, true, false, cond, ltb, List, Ok, Err, Result, sym, refl, ap, ◌∙◌, subst, arith}
+use Rattle.std.proofs.Common.{◌≡◌, ℕ, ◌<◌, false, cond, ltb, List, Ok, Err, Result, sym, ap, ◌∙◌, subst, arith}
 use Rattle.std.proofs.lemmas.Bool.Decides.{nat_tests}
 use Rattle.rows.specs.declared.row.Row.{Row}
 use Rattle.rows.specs.declared.answer.Limits.{Limits}
@@ -9,7 +9,7 @@ use Rattle.rows.specs.declared.answer.TableFault.{TableFault}
 use Rattle.rows.specs.Changes.{Changed}
 use Rattle.rows.specs.Tables.{add_answer, rows_after}
 use Rattle.analysis.specs.declared.fault.RunFault.TheVariants.{NotFact}
-use Rattle.analysis.specs.Calls.{counted, passed, put_answer, facts_after, rows_put, PutChanged, Putting}
+use Rattle.analysis.specs.Calls.{counted, passed, put_answer, facts_after, Putting}
 
 gate : (k : ℕ) → k < 18 → ltb 17 k ≡ false
 gate k h = grind (arith, nat_tests)

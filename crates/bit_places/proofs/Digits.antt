@@ -1,5 +1,5 @@
 -- Two digits: their number keeps their order.
-use Rattle.std.proofs.Common.{◌≡◌, ℕ, suc, ◌+◌, ◌-◌, ◌*◌, ◌<◌, ◌≤◌, refl, mul-le-mul_right, arith}
+use Rattle.std.proofs.Common.{◌≡◌, ℕ, suc, ◌+◌, ◌*◌, ◌<◌, ◌≤◌, mul-le-mul_right, arith}
 use Rattle.bit_places.specs.Places.{digit}
 
 module _ (n m q r : ℕ) (h : q < n) (l : r < m) where

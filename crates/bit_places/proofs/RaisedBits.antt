@@ -1,4 +1,4 @@
-use Rattle.std.proofs.Common.{◌≡◌, ℕ, zero, suc, ◌+◌, ◌-◌, ◌*◌, ◌/◌, ◌%◌, ◌^◌, ◌<◌, true, eqb, ◌⊎◌, List, length, get_or, sym, refl, ap, ◌∙◌, ⊎_elim, mul-div_cancel, arith}
+use Rattle.std.proofs.Common.{◌≡◌, ℕ, zero, suc, ◌+◌, ◌-◌, ◌*◌, ◌/◌, ◌%◌, ◌^◌, ◌<◌, true, eqb, List, length, get_or, sym, refl, ap, ◌∙◌, ⊎_elim, mul-div_cancel, arith}
 use native.Mathlib.Nat.{div-eq_of_lt, div_self, mul-mod_left}
 use lib.Bits.{bit_or, or_zero_r}
 use Rattle.std.proofs.lemmas.Nat.{or_shr, or_mod, pow-add, pow_pos, pow_below, mod_below}

@@ -1,5 +1,5 @@
 -- A search for the next bit that is set, word by word.
-use Rattle.std.proofs.Common.{◌≡◌, ℕ, zero, suc, ◌+◌, ◌-◌, ◌*◌, ◌/◌, ◌%◌, ◌^◌, ◌<◌, ◌≤◌, false, eqb, ◌⊎◌, List, [], length, get_or, Some, None, sym, refl, ap, ◌∙◌, subst, ⊎_elim, add-zero, add-suc, div-one, arith}
+use Rattle.std.proofs.Common.{◌≡◌, ℕ, zero, suc, ◌+◌, ◌-◌, ◌*◌, ◌/◌, ◌%◌, ◌^◌, ◌<◌, ◌≤◌, false, eqb, List, [], length, get_or, Some, None, sym, ap, ◌∙◌, subst, ⊎_elim, add-zero, add-suc, div-one, arith}
 use native.Mathlib.Nat.{div-eq_of_lt}
 use lib.Count.{count_trailing_zeros, under}
 use borrow.Author.Numbers.{trailing_lt}

@@ -1,5 +1,5 @@
 -- What a bit table's functions answer.
-use Rattle.std.proofs.Common.{◌≡◌, ℕ, suc, ◌+◌, ◌-◌, ◌*◌, ◌<◌, ◌≤◌, Bool, true, false, cond, leb, ◌⊎◌, List, [], length, Some, None, Ok, Err, sym, refl, ap, ◌∙◌, ⊎_elim, zero-add, add-one, arith}
+use Rattle.std.proofs.Common.{◌≡◌, ℕ, suc, ◌+◌, ◌-◌, ◌*◌, ◌<◌, ◌≤◌, Bool, true, false, cond, leb, List, [], length, Some, None, Ok, Err, sym, refl, ap, ◌∙◌, ⊎_elim, zero-add, add-one, arith}
 use Rattle.std.proofs.lemmas.List.FromFn.{get_or-map-range_with_len}
 use Rattle.std.proofs.lemmas.Bool.{cases_lt, or_from, lt-leb}
 use Rattle.rows.specs.declared.row.Row.{Row}

@@ -3,7 +3,7 @@ use Rattle.std.proofs.Common.{◌≡◌, ℕ, suc, ◌+◌, ◌-◌, ◌*◌, �
 use Rattle.std.proofs.lemmas.Bool.Decides.{nat_tests}
 use Rattle.rows.specs.Rows.{admissible, places}
 use Rattle.rows.specs.Relations.{row1, row2, row3}
-use Rattle.facts.specs.Format.{two_bytes, bytes_of, codes_of, mark}
+use Rattle.facts.specs.Format.{two_bytes, bytes_of, codes_of}
 
 pub none_left : (bs : List ℕ) → length bs < 1 → bs ≡ []
 none_left [] h = refl

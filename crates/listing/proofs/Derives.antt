@@ -1,6 +1,5 @@
 -- What completing a table adds, and the rows that a listing takes from it.
-use Rattle.std.proofs.Common.{◌≡◌, ℕ, suc, ◌+◌, ◌-◌, ◌<◌, ◌≤◌, Bool, true, false, cond, ◌||◌, T, ◌⊎◌, ◌↔◌, List, [], ◌∷◌, length, Ok, sym, refl, ap, ◌∙◌, subst, inl, inr, ⊎_elim, add-zero, arith}
-use Rattle.std.specs.List.{AllByRecursion as All}
+use Rattle.std.proofs.Common.{◌≡◌, ℕ, ◌+◌, ◌-◌, ◌<◌, ◌≤◌, true, ◌||◌, ◌⊎◌, List, [], ◌∷◌, length, Ok, sym, refl, ap, ◌∙◌, subst, inl, inr, ⊎_elim, add-zero, arith}
 use Rattle.std.proofs.lemmas.Bool.{cases_Bool}
 use Rattle.rows.specs.declared.row.Row.{Row}
 use Rattle.rows.specs.declared.answer.Limits.{Limits}
@@ -15,18 +14,17 @@ use Rattle.datalog.specs.Contents.{Among}
 use Rattle.datalog.proofs.Truths.{T_from, T_is, T_not, not_T}
 use Rattle.datalog.proofs.Engine.{Sub, complete_same, complete_keeps}
 use Rattle.output.specs.Program.{program}
-use Rattle.output.specs.Completion.{Completed, Missing, Adds}
+use Rattle.output.specs.Completion.{Completed, Adds}
 use Rattle.output.specs.Progressing.{Completing}
 use Rattle.output.specs.declared.progress.Progress.{Progress}
 use Rattle.output.specs.declared.progress.Progress.TheVariants.{Finished, Spent}
 use Rattle.output.proofs.Completing.{adds_completed}
-use Rattle.facts.specs.Format.{Fact, file}
 use Rattle.analysis.specs.declared.fault.RunFault.{RunFault}
 use Rattle.analysis.specs.declared.fault.RunFault.TheVariants.{NotEmpty, NotFact, RowsMissing, Refused, Stopped}
 use Rattle.analysis.specs.declared.state.Filling.{Filling}
 use Rattle.analysis.specs.Calls.{begun, Stopping}
 use Rattle.listing.specs.Loading.{Took, Loading}
-use Rattle.listing.specs.Listing.{most, DerivedRows, Lists, Refusing, Listing}
+use Rattle.listing.specs.Listing.{most, Lists, Refusing, Listing}
 
 -- in a list with a row in front
 module _ (x : Row) (xs : List Row) (r : Row) where

@@ -1,5 +1,5 @@
 -- A file loaded record by record: what the table has taken so far.
-use Rattle.std.proofs.Common.{◌≡◌, ℕ, zero, suc, ◌+◌, ◌<◌, ◌≤◌, Bool, true, false, cond, ◌&&◌, ◌||◌, eqb, ltb, leb, List, [], ◌∷◌, ◌++◌, length, Some, None, Ok, Err, Option, Result, sym, refl, ap, ◌∙◌, subst, ⊎_elim, append_assoc, append-nil, le_of_suc-le-suc, not-suc-le-zero, add-zero, eq-or-lt_of_le, arith, length-append, eqb-true}
+use Rattle.std.proofs.Common.{◌≡◌, ℕ, zero, suc, ◌+◌, ◌<◌, ◌≤◌, Bool, true, false, cond, ◌&&◌, ◌||◌, eqb, ltb, List, [], ◌∷◌, ◌++◌, length, Some, None, Ok, Err, Option, Result, sym, refl, ap, ◌∙◌, subst, ⊎_elim, append_assoc, append-nil, le_of_suc-le-suc, not-suc-le-zero, add-zero, eq-or-lt_of_le, arith, length-append, eqb-true}
 use Rattle.std.specs.List.{AllByRecursion as All}
 use Rattle.std.proofs.ByRecursion.{All-push, All-weaker}
 use Rattle.std.proofs.lemmas.Bool.{and_parts}
@@ -9,16 +9,15 @@ use Rattle.rows.specs.declared.answer.Limits.{Limits}
 use Rattle.rows.specs.declared.answer.Outcome.{Outcome}
 use Rattle.rows.specs.declared.answer.Outcome.TheVariants.{Held, Added}
 use Rattle.rows.specs.declared.answer.TableFault.{TableFault}
-use Rattle.rows.specs.Rows.{has, same, insert}
+use Rattle.rows.specs.Rows.{has, same}
 use Rattle.rows.specs.Changes.{Changed}
 use Rattle.rows.specs.Tables.{add_answer, rows_after}
-use Rattle.rows.specs.Adding.{Filled, taken, joined, went_in}
+use Rattle.rows.specs.Adding.{taken, went_in}
 use Rattle.rows.proofs.Sets.{has_insert}
 use Rattle.rows.proofs.Order.{same_refl}
 use Rattle.rows.proofs.Addings.{filled_none, filled_more, taken_counts}
 use Rattle.facts.specs.declared.record.Record.{Record}
-use Rattle.facts.specs.declared.record.ReadFault.{ReadFault}
-use Rattle.facts.specs.Format.{marks, mark, bytes_of, codes_of, written, Fact, file, Answered}
+use Rattle.facts.specs.Format.{mark, bytes_of, codes_of, written, Fact, file, Answered}
 use Rattle.analysis.specs.declared.fault.RunFault.TheVariants as run
 use Rattle.analysis.specs.Calls as calls
 use Rattle.analysis.specs.Calls.{passed, put_answer}

@@ -1,5 +1,5 @@
 -- Facts read from a file and added to a table, one after another.
-use Rattle.std.specs.Prelude.{◌≡◌, ℕ, true, List, [], ◌++◌, length, Some, None, Ok, Err, Option, Result}
+use Rattle.std.specs.Prelude.{◌≡◌, ℕ, true, List, ◌++◌, length, Some, None, Ok, Err, Option, Result}
 use Rattle.std.specs.List.{AllByRecursion as All}
 use Rattle.rows.specs.declared.row.Row.{Row}
 use Rattle.rows.specs.declared.answer.Limits.{Limits}
@@ -9,7 +9,6 @@ use Rattle.rows.specs.Rows.{has}
 use Rattle.rows.specs.Tables.{add_answer, rows_after}
 use Rattle.rows.specs.Changes.{Changed}
 use Rattle.rows.specs.Adding.{Filled, taken}
-use Rattle.facts.specs.declared.record.Record.{Record}
 use Rattle.facts.specs.Format as format
 use Rattle.facts.specs.Format.{Fact, file, written, fault_offset, Answered}
 use Rattle.analysis.specs.declared.fault.RunFault.{RunFault}

@@ -1,10 +1,10 @@
 -- The first row of one relation from a row on.
-use Rattle.std.proofs.Common.{◌≡◌, ℕ, ◌<◌, Bool, true, false, List, [], ◌∷◌, Some, None, Option, sym, refl, ap, ◌∙◌, subst, ⊎_elim, arith}
+use Rattle.std.proofs.Common.{◌≡◌, ℕ, ◌<◌, true, List, [], ◌∷◌, Some, None, sym, refl, ap, ◌∙◌, subst, ⊎_elim, arith}
 use Rattle.std.proofs.ByRecursion.{All-weaker}
 use Rattle.std.proofs.lemmas.Bool.{cases_Bool, cases_eq}
 use Rattle.rows.specs.declared.row.Row.{Row}
 use Rattle.rows.specs.Rows.{before, first_from, of_relation, Asc}
-use Rattle.rows.proofs.Order.{before_relation, not_before_relation}
+use Rattle.rows.proofs.Order.{before_relation}
 use Rattle.rows.proofs.Scan.{first_skip, first_stop, of_in, of_out, none_above}
 
 module _ (k : ℕ) (q : Row) where

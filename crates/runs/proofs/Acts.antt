@@ -1,5 +1,5 @@
 -- Calls on a run, as the player makes them.
-use Rattle.std.proofs.Common.{◌≡◌, ℕ, List, sym, refl, ap, ◌∙◌, subst}
+use Rattle.std.proofs.Common.{◌≡◌, ℕ, List, sym, refl, subst}
 use Rattle.rows.specs.declared.row.Row.{Row}
 use Rattle.rows.specs.declared.answer.Limits.{Limits}
 use Rattle.analysis.specs.declared.state.Filling.{Filling}

@@ -1,18 +1,15 @@
 -- A fact in atoms is known by its row: the law of atoms carried to facts, and the promise told in atoms.
-use Rattle.std.proofs.Common.{◌≡◌, ℕ, ◌<◌, Bool, true, false, cond, eqb, ◌⊎◌, ◌↔◌, List, [], ◌∷◌, ◌++◌, Some, None, Ok, Err, Option, Result, sym, refl, ap, ◌∙◌, subst, inl, inr, ⊎_elim, arith}
+use Rattle.std.proofs.Common.{◌≡◌, ℕ, ◌<◌, cond, eqb, ◌⊎◌, List, [], ◌∷◌, ◌++◌, Some, None, Ok, Err, Option, sym, refl, ap, ◌∙◌, subst, inl, inr, ⊎_elim, arith}
 use Rattle.rows.specs.declared.row.Row.{Row}
 use Rattle.rows.specs.declared.answer.Limits.{Limits}
 use Rattle.rows.specs.declared.answer.Outcome.{Outcome}
-use Rattle.rows.specs.Rows.{insert}
 use Rattle.rows.specs.Tables.{Lawful}
 use Rattle.datalog.specs.Contents.{Among}
 use Rattle.datalog.proofs.Closes.{insert_cases, insert_keeps, insert_here}
 use Rattle.datalog.proofs.Complete.{complete_below}
 use Rattle.datalog.proofs.Engine.{complete_keeps, has_none}
 use Rattle.output.specs.Program.{program}
-use Rattle.output.specs.Completion.{Completed}
 use Rattle.output.specs.Ruled.{program_stratified}
-use Rattle.analysis.specs.declared.fault.RunFault.{RunFault}
 use Rattle.atom_puts.specs.declared.fact.Fact.{Fact}
 use Rattle.atom_puts.specs.declared.fact.Fact.TheVariants as fact
 use Rattle.atom_puts.specs.Facts.{row_of}
@@ -23,7 +20,7 @@ use Rattle.runs.specs.declared.script.Event.{Event}
 use Rattle.runs.specs.declared.script.Event.TheVariants.{NotMade, Began, Put, Started, Advanced, Settled, Read}
 use Rattle.runs.specs.Histories.{accept, accepted_onto, accepted}
 use Rattle.runs.specs.Traces.{Deed, deed, Order, orders, Phase, Act, Turn, Trace}
-use Rattle.runs.specs.Told.{InAtom, InAtoms, Accepts, Accepted, ToldInAtoms}
+use Rattle.runs.specs.Told.{InAtom, InAtoms, Accepted, ToldInAtoms}
 use Rattle.runs.proofs.Wholes.{promised}
 
 then : {A B : Type 0} → Option A → (A → Option B) → Option B

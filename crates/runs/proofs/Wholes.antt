@@ -1,5 +1,5 @@
 -- The promise over whole runs, from the contracts of the calls one after another.
-use Rattle.std.proofs.Common.{◌≡◌, ℕ, zero, suc, ◌+◌, ◌<◌, ◌≤◌, Bool, true, false, cond, T, ltb, ◌⊎◌, ◌↔◌, List, [], ◌∷◌, ◌++◌, length, get_or, set, Ok, Err, Result, sym, refl, ap, ◌∙◌, subst, inl, inr, ⊎_elim, add-zero, add_assoc, zero-add, arith}
+use Rattle.std.proofs.Common.{◌≡◌, ℕ, zero, suc, ◌+◌, ◌<◌, ◌≤◌, Bool, true, false, cond, ltb, ◌⊎◌, ◌↔◌, List, [], ◌∷◌, ◌++◌, length, set, Ok, Err, Result, sym, refl, ap, ◌∙◌, subst, inl, inr, ⊎_elim, add-zero, add_assoc, zero-add, arith}
 use Rattle.std.proofs.lemmas.Bool.{ltb-false}
 use Rattle.rows.specs.declared.row.Row.{Row}
 use Rattle.rows.specs.declared.answer.Limits.{Limits}
@@ -9,18 +9,18 @@ use Rattle.rows.specs.declared.answer.TableFault.TheVariants.{NotAdmissible, Ful
 use Rattle.rows.specs.Rows.{has, insert, admissible}
 use Rattle.rows.specs.Tables.{add_answer, full, Lawful}
 use Rattle.rows.proofs.Sets.{insert_held}
-use Rattle.datalog.specs.Contents.{Content, Among}
-use Rattle.datalog.proofs.Truths.{T_from, T_is, decide}
+use Rattle.datalog.specs.Contents.{Among}
+use Rattle.datalog.proofs.Truths.{decide}
 use Rattle.datalog.proofs.Closes.{insert_cases, insert_keeps, insert_here}
-use Rattle.datalog.proofs.Engine.{Sub, complete_keeps, has_here, has_there, has_cons, has_none}
+use Rattle.datalog.proofs.Engine.{complete_keeps, has_here, has_there, has_cons, has_none}
 use Rattle.output.specs.declared.progress.Progress.{Progress}
 use Rattle.output.specs.declared.progress.Progress.TheVariants.{Finished, Spent}
 use Rattle.output.specs.Program.{program}
 use Rattle.output.specs.Completion.{Completed, Missing, Adds}
-use Rattle.output.proofs.Completing.{adds_append, adds_completed, joined_completed}
+use Rattle.output.proofs.Completing.{adds_append, adds_completed}
 use Rattle.analysis.specs.declared.fault.RunFault.{RunFault}
 use Rattle.analysis.specs.declared.fault.RunFault.TheVariants.{NotEmpty, NotFact, RowsMissing, Refused, Stopped}
-use Rattle.analysis.specs.Calls.{passed, put_answer, rows_put, Putting, Advancing, read_answer}
+use Rattle.analysis.specs.Calls.{passed, put_answer, Putting, Advancing, read_answer}
 use Rattle.theorems.specs.Compared.{FactsAlone}
 use Rattle.theorems.proofs.Compares.{loan_errors_compared, subset_errors_compared}
 use Rattle.runs.specs.declared.script.Event.{Event}

@@ -1,5 +1,5 @@
 -- Naive errors are among the location-insensitive ones.
-use Rattle.std.proofs.Common.{◌≡◌, ℕ, ◌<◌, ◌≤◌, ◌≢◌, ◌⊎◌, List, [], ◌∷◌, sym, refl, ◌∙◌, subst, inl, inr, lit<, lit≤}
+use Rattle.std.proofs.Common.{◌≡◌, ℕ, ◌≢◌, ◌⊎◌, List, [], ◌∷◌, sym, refl, ◌∙◌, subst, inl, inr, lit<, lit≤}
 use Rattle.rows.specs.declared.row.Row.{Row}
 use Rattle.rows.specs.Relations.{universal_region, loan_invalidated_at, known_placeholder_subset, placeholder, known_contains, known_placeholder_subset_closed, subset, origin_contains_loan_on_entry, loan_live_at, errors, subset_errors, origin_contains_loan_anywhere, potential_errors, potential_subset_errors}
 use Rattle.datalog.specs.Contents.{Content, Among}

@@ -1,7 +1,6 @@
 use Rattle.std.proofs.Common.{◌≡◌, ◌<◌, true, false, [], length, set, refl, ap, ◌∙◌, arith}
 use Rattle.std.proofs.lemmas.List.Edits.{fill_none, fill_more}
 use Rattle.rows.specs.Openings.{if_open}
-use Rattle.bit_places.specs.Places.{base}
 use Rattle.bit_places.specs.Marked.{marked}
 use Rattle.bit_places.specs.Opened.{cleared, words_for}
 use Rattle.bit_places.proofs.Openings.{opened, cleared_rows, no_rows}

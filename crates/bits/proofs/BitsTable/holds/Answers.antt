@@ -1,4 +1,4 @@
-use Rattle.std.proofs.Common.{sym, refl, ap, ◌∙◌, arith}
+use Rattle.std.proofs.Common.{sym, ap, ◌∙◌, arith}
 use Rattle.bit_places.specs.Bit.{bit}
 use Rattle.bit_places.proofs.Lawfuls.{within}
 use Rattle.bit_places.proofs.Tabled.{place_in_words, has_shut, has_not_fit, has_open}

@@ -1,5 +1,4 @@
-use Rattle.std.proofs.Common.{Some, sym, refl, ap, ◌∙◌, subst}
-use Rattle.bit_places.specs.Places.{place}
+use Rattle.std.proofs.Common.{Some, sym, ap, ◌∙◌, subst}
 use Rattle.bit_places.specs.Sought.{Sought}
 use Rattle.bit_places.proofs.Lawfuls.{within}
 use Rattle.bit_places.proofs.Seeks.{first_sought, first_nothing}

@@ -1,5 +1,5 @@
 use Rattle.std.proofs.Common.{◌≡◌, ◌*◌, ◌≤◌, sym, refl, ◌∙◌, arith, rules}
-use Rattle.bit_places.specs.Places.{second, third, base, digit, inner}
+use Rattle.bit_places.specs.Places.{second, third, inner}
 use Rattle.bit_places.proofs.Placed.{place_open, place_past}
 use Rattle.bit_places.proofs.Sizes.{second_most, third_most, pair_most, size_most, base_most, inner_most}
 use Rattle.bits.proofs.places.place.Goals as goal

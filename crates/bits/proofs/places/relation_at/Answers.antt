@@ -1,4 +1,4 @@
-use Rattle.std.proofs.Common.{◌≡◌, sym, refl, ap, ◌∙◌, arith}
+use Rattle.std.proofs.Common.{◌≡◌, sym, ap, ◌∙◌, arith}
 use Rattle.bit_places.specs.Places.{base}
 use Rattle.bit_places.proofs.Sizes.{base_none, base_suc, relation_is}
 use Rattle.bits.proofs.places.relation_at.Goals as goal

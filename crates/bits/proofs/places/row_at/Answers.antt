@@ -1,5 +1,5 @@
 use Rattle.std.proofs.Common.{refl, arith, rules}
-use Rattle.bit_places.specs.Places.{second, base}
+use Rattle.bit_places.specs.Places.{base}
 use Rattle.bit_places.proofs.Sizes.{Made, made}
 use Rattle.bits.proofs.places.row_at.Goals as goal
 

@@ -1,4 +1,4 @@
-use Rattle.std.proofs.Common.{◌≡◌, ◌*◌, ◌≤◌, refl, arith, rules}
+use Rattle.std.proofs.Common.{◌≡◌, ◌*◌, ◌≤◌, arith, rules}
 use Rattle.bit_places.proofs.Sizes.{pair_most, size_most}
 use Rattle.bit_places.specs.Places.{second, third, size}
 use Rattle.bits.proofs.places.size.Goals as goal

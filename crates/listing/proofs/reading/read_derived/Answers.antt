@@ -1,4 +1,4 @@
-use Rattle.std.proofs.Common.{◌≡◌, ◌+◌, ◌++◌, vec_items, sym, ap, ◌∙◌, append_assoc, append-nil}
+use Rattle.std.proofs.Common.{◌+◌, ◌++◌, vec_items, sym, ap, ◌∙◌, append_assoc, append-nil}
 use Rattle.rows.specs.Rows.{rest, start, of_relation}
 use Rattle.listing.proofs.InOrder.{relation_first, none_past}
 use Rattle.listing.proofs.reading.read_derived.Goals as goal

@@ -1,13 +1,11 @@
-use Rattle.std.proofs.Common.{◌≡◌, ℕ, ◌*◌, ◌≤◌, [], length, IfOk, Ok, Err, vec_items, Result, sym, refl, ap, ◌∙◌, subst, arith}
-use mathlib.Core.List as lists
-use Rattle.rows.specs.declared.row.Row.{Row}
+use Rattle.std.proofs.Common.{◌≡◌, ℕ, ◌*◌, ◌≤◌, [], length, IfOk, Ok, Err, vec_items, Result, sym, ap, ◌∙◌, subst, arith}
 use Rattle.rows.specs.Adding.{joined}
 use Rattle.rows.specs.Words.{gather, written}
 use Rattle.rows.proofs.Addings.{grown_keeps}
 use Rattle.rows.proofs.Spells.{grown_written}
 use Rattle.list.specs.declared.List.{List}
 use Rattle.list.specs.contracts.ListTable.TheImpl.{ghosts}
-use Rattle.runs.specs.Promise.{Promised, PromisedOnWords}
+use Rattle.runs.specs.Promise.{Promised}
 use Rattle.runs.proofs.Grows.{Grew, trace_grew}
 use Rattle.runs.proofs.on_words.play_on_words.Goals as goal
 

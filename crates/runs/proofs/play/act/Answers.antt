@@ -1,9 +1,9 @@
-use Rattle.std.proofs.Common.{◌≡◌, Ok, Err, sym, refl, ap, ◌∙◌, subst}
+use Rattle.std.proofs.Common.{Err, sym, refl, ap, subst}
 use Rattle.rows.specs.declared.row.Row.{Row}
 use Rattle.analysis.specs.declared.fault.RunFault.{RunFault}
 use Rattle.atom_puts.specs.Facts.{row_of}
 use Rattle.runs.specs.declared.script.Call.TheVariants.{PutFact}
-use Rattle.runs.specs.declared.script.Event.TheVariants.{NotMade, Put, Started, Advanced, Settled, Read}
+use Rattle.runs.specs.declared.script.Event.TheVariants.{Put, Started, Settled}
 use Rattle.runs.specs.Traces.{Deed, Phase, phase, deed, Act}
 use Rattle.runs.proofs.Acts.{told, barred, not_filling_put, not_filling_start, not_running_advance, not_running_settle, not_done_read}
 use Rattle.runs.proofs.play.act.Goals as goal

@@ -1,8 +1,8 @@
-use Rattle.std.proofs.Common.{◌≡◌, ◌≤◌, List, [], length, take, IfOk, Ok, Err, vec_items, Result, sym, refl, ap, ◌∙◌, subst, arith, take_all}
+use Rattle.std.proofs.Common.{◌≡◌, List, [], take, IfOk, Ok, Err, vec_items, Result, sym, refl, ◌∙◌, subst, arith, take_all}
 use Rattle.std.proofs.lemmas.Result.{err_from_is_err_and}
 use Rattle.runs.specs.declared.script.Event.{Event}
 use Rattle.runs.specs.declared.script.State.{State}
-use Rattle.runs.specs.Traces.{Order, Phase, orders, phases, Trace}
+use Rattle.runs.specs.Traces.{orders, phases, Trace}
 use Rattle.runs.proofs.Turns.{order, orders_more, trace_more}
 use Rattle.runs.proofs.Wholes.{promised}
 use Rattle.runs.proofs.Tellings.{told}

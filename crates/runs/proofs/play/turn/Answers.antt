@@ -1,6 +1,5 @@
-use Rattle.std.proofs.Common.{◌≡◌, ◌<◌, ◌≤◌, length, get_or, set, vec_items, sym, refl, ap, ◌∙◌, subst, arith}
+use Rattle.std.proofs.Common.{◌≡◌, ◌<◌, ◌≤◌, length, get_or, vec_items, refl, ap, ◌∙◌, arith}
 use Rattle.std.proofs.lemmas.List.{get_or_read, set-set}
-use Rattle.runs.specs.declared.script.State.{State}
 use Rattle.runs.specs.declared.script.State.TheVariants.{Moved}
 use Rattle.runs.specs.Traces.{deed}
 use Rattle.runs.proofs.Turns.{begins_run, begins_not, goes_nowhere, goes_on, on_run}

@@ -1,4 +1,4 @@
-use Rattle.std.proofs.Common.{◌≡◌, ◌<◌, length, sym, refl, ◌∙◌, subst}
+use Rattle.std.proofs.Common.{◌<◌, length, sym, refl, subst}
 use Rattle.rows.specs.declared.row.Row.{Row}
 use Rattle.rows.specs.Rows.{rest}
 use Rattle.rows.proofs.Order.{before_irrefl}

@@ -1,4 +1,4 @@
-use Rattle.std.proofs.Common.{◌≡◌, ◌<◌, ◌≤◌, sym, arith}
+use Rattle.std.proofs.Common.{◌≡◌, ◌≤◌, sym, arith}
 use Rattle.rows.specs.declared.row.Row.{Row}
 use Rattle.rows.specs.Relations.{row3}
 use Rattle.rows.proofs.Order.{not_before_relation}

@@ -1,4 +1,4 @@
-use Rattle.std.proofs.Common.{◌≡◌, Ok, sym, refl, ap, ◌∙◌, arith}
+use Rattle.std.proofs.Common.{Ok, sym, ap, ◌∙◌}
 use Rattle.rows.specs.declared.answer.Outcome.{Outcome}
 use Rattle.analysis.specs.Calls.{facts_after}
 use Rattle.analysis.proofs.Puts.{put_did}
