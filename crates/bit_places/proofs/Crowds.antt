@@ -1,6 +1,6 @@
 -- How many rows there can be: a table that has room for all is never full.
 use Rattle.std.proofs.Common.{◌≡◌, ℕ, suc, ◌+◌, ◌-◌, ◌<◌, ◌≤◌, true, false, List, [], ◌∷◌, length, refl, ap, ◌∙◌, subst, ⊎_elim, arith}
-use Rattle.std.specs.List.{AllByRecursion as All}
+use Rattle.std.specs.List.{AllByRecursion}
 use Rattle.std.proofs.ByRecursion.{All-weaker}
 use Rattle.std.proofs.lemmas.Bool.{cases_eq, or_from, or_parts}
 use Rattle.rows.specs.declared.row.Row.{Row}
@@ -14,11 +14,11 @@ use Rattle.bit_places.proofs.Placed.{Fit, fit, place_low, place_is, number_below
 abbrev pub Between : ℕ → ℕ → ℕ → Row → Type 0
 Between w lo hi x = Fit w x × (lo ≤ place w x) × (place w x < hi)
 
-higher : (w lo hi : ℕ) (x : Row) → Fit w x → (xs : List Row) → All (λ y. before x y ≡ true) xs → All (Between w lo hi) xs → All (Between w (suc (place w x)) hi) xs
+higher : (w lo hi : ℕ) (x : Row) → Fit w x → (xs : List Row) → AllByRecursion (λ y. before x y ≡ true) xs → AllByRecursion (Between w lo hi) xs → AllByRecursion (Between w (suc (place w x)) hi) xs
 higher w lo hi x f [] a b = tt
 higher w lo hi x f (y ∷ ys) a b = ((b.0.0, place_low w x f y a.0, b.0.2), higher w lo hi x f ys a.1 b.1)
 
-pub crowd : (w lo hi : ℕ) (xs : List Row) → Asc xs → All (Between w lo hi) xs → length xs ≤ hi - lo
+pub crowd : (w lo hi : ℕ) (xs : List Row) → Asc xs → AllByRecursion (Between w lo hi) xs → length xs ≤ hi - lo
 crowd w lo hi [] a b = omega arith
 crowd w lo hi (x ∷ xs) a b =
     let l = crowd w (suc (place w x)) hi xs a.1 (higher w lo hi x b.0.0 xs a.0 b.1) in
@@ -27,13 +27,13 @@ crowd w lo hi (x ∷ xs) a b =
     omega arith
 
 -- one row more than those held
-pub crowd_more : (w lo hi : ℕ) (xs : List Row) (r : Row) → Asc xs → All (Between w lo hi) xs → Between w lo hi r → has xs r ≡ false → length xs < hi - lo
+pub crowd_more : (w lo hi : ℕ) (xs : List Row) (r : Row) → Asc xs → AllByRecursion (Between w lo hi) xs → Between w lo hi r → has xs r ≡ false → length xs < hi - lo
 crowd_more w lo hi xs r a b c n =
     let l = crowd w lo hi (insert r xs) (asc_insert r xs a) (all_insert (Between w lo hi) r c xs b) in
     let m = length_insert r xs n in
     omega arith
 
-pub all_of : (P : Row → Type 0) (k : ℕ) (xs : List Row) → All P xs → All (λ y. P y × (y.relation ≡ k)) (of_relation k xs)
+pub all_of : (P : Row → Type 0) (k : ℕ) (xs : List Row) → AllByRecursion P xs → AllByRecursion (λ y. P y × (y.relation ≡ k)) (of_relation k xs)
 unfolding of_relation
 all_of P k [] a = tt
 all_of P k (x ∷ xs) a =
@@ -54,7 +54,7 @@ has_of k (x ∷ xs) r h =
     ⊎_elim (λ e. ap (λ ys. has ys r) (of_in k x xs e) ∙ or_from (same x r) (has (of_relation k xs) r) p.0 (has_of k xs r p.1))
     (λ e. ap (λ ys. has ys r) (of_out k x xs e) ∙ has_of k xs r p.1) (cases_eq x.relation k)
 
-module _ (w : ℕ) (xs : List Row) (r : Row) (asc : Asc xs) (ok : All (λ x. admissible w x ≡ true) xs) (f : admissible w r ≡ true) (n : has xs r ≡ false) where
+module _ (w : ℕ) (xs : List Row) (r : Row) (asc : Asc xs) (ok : AllByRecursion (λ x. admissible w x ≡ true) xs) (f : admissible w r ≡ true) (n : has xs r ≡ false) where
   pub room_all : length xs < base w 40
   room_all =
       let m = crowd_more w 0 (base w 40) xs r asc (All-weaker _ _ (λ y p. (fit w y p, omega arith, place_below w y (fit w y p))) xs ok) (fit w r f, omega arith, place_below w r (fit w r f)) n in

@@ -1,6 +1,6 @@
 -- The rows whose bits are set: their order, membership, one bit raised, the least from a row on.
 use Rattle.std.proofs.Common.{◌≡◌, ℕ, zero, suc, ◌+◌, ◌*◌, ◌<◌, ◌≤◌, true, false, List, [], ◌∷◌, length, Some, sym, refl, ap, ◌∙◌, subst, ⊎_elim, add-zero, add-suc, arith}
-use Rattle.std.specs.List.{AllByRecursion as All}
+use Rattle.std.specs.List.{AllByRecursion}
 use Rattle.std.proofs.lemmas.Bool.{cases_Bool, both_ways, cases_lt, or_left}
 use Rattle.rows.specs.declared.row.Row.{Row}
 use Rattle.rows.specs.Rows.{before, same, admissible, has, insert, first_from, Asc}
@@ -21,7 +21,7 @@ pub marked_clear : (w : ℕ) (ws : List ℕ) (i n : ℕ) → bit ws i ≡ false 
 unfolding marked
 marked_clear w ws i n p = rw p
 
-pub all_marked : (P : Row → Type 0) (w : ℕ) (ws : List ℕ) (i n : ℕ) → ((j : ℕ) → i ≤ j → j < i + n → P (row_of w j)) → All P (marked w ws i n)
+pub all_marked : (P : Row → Type 0) (w : ℕ) (ws : List ℕ) (i n : ℕ) → ((j : ℕ) → i ≤ j → j < i + n → P (row_of w j)) → AllByRecursion P (marked w ws i n)
 unfolding marked
 all_marked P w ws i zero h = tt
 all_marked P w ws i (suc n) h =
@@ -37,7 +37,7 @@ asc_marked w ws i (suc n) h =
     (λ p. rw (marked_set w ws i n p) (all_marked (λ y. before (row_of w i) y ≡ true) w ws (suc i) n (λ j l m. rows_rise w i j (omega arith) (omega arith)), t))
     (λ p. rw (marked_clear w ws i n p) t) (cases_Bool (bit ws i))
 
-pub sound_marked : (w : ℕ) (ws : List ℕ) (i n : ℕ) → i + n ≤ base w 40 → All (λ x. admissible w x ≡ true) (marked w ws i n)
+pub sound_marked : (w : ℕ) (ws : List ℕ) (i n : ℕ) → i + n ≤ base w 40 → AllByRecursion (λ x. admissible w x ≡ true) (marked w ws i n)
 sound_marked w ws i n h = all_marked (λ x. admissible w x ≡ true) w ws i n (λ j l m. unfit w (row_of w j) (fit_row w j (omega arith)))
 
 pub few_marked : (w : ℕ) (ws : List ℕ) (i n : ℕ) → length (marked w ws i n) ≤ n
@@ -63,14 +63,14 @@ marked_none w ws i zero h = refl
 marked_none w ws i (suc n) h =
     marked_clear w ws i n (h i (omega arith) (omega arith)) ∙ marked_none w ws (suc i) n (λ j l m. h j (omega arith) (omega arith))
 
-insert_below : (r : Row) (xs : List Row) → All (λ y. before r y ≡ true) xs → insert r xs ≡ r ∷ xs
+insert_below : (r : Row) (xs : List Row) → AllByRecursion (λ y. before r y ≡ true) xs → insert r xs ≡ r ∷ xs
 unfolding insert
 insert_below r [] a = refl
 insert_below r (x ∷ xs) a = insert_low r x xs a.0
 
 module _ (w : ℕ) (ws : List ℕ) (r : Row) (f : Fit w r) where
   -- the rows after r's place are above r
-  above : (i n : ℕ) → place w r < i → i + n ≤ base w 40 → All (λ y. before r y ≡ true) (marked w ws i n)
+  above : (i n : ℕ) → place w r < i → i + n ≤ base w 40 → AllByRecursion (λ y. before r y ≡ true) (marked w ws i n)
   above i n l h =
       all_marked (λ y. before r y ≡ true) w ws i n
       (λ j p q. subst (λ (x : Row). before x (row_of w j) ≡ true) (row_place w r f) (rows_rise w (place w r) j (omega arith) (omega arith)))

@@ -1,7 +1,7 @@
 -- A file read record by record: what has been read, and that it can be read in one way only.
 use Rattle.std.proofs.Common.{◌≡◌, ℕ, zero, suc, ◌+◌, ◌*◌, ◌/◌, ◌%◌, ◌<◌, ◌≤◌, Bool, true, cond, ◌&&◌, eqb, ◌⊎◌, List, [], ◌∷◌, ◌++◌, length, get_or, take, Some, None, Ok, Err, Option, Result, sym, refl, ap, ◌∙◌, subst, ⊎_elim, append_assoc, append-nil, le_of_suc-le-suc, not-suc-le-zero, add_assoc, eq-or-lt_of_le, arith, length-append, take_all, eqb-true}
 use Rattle.std.proofs.lemmas.Bool.{and_parts}
-use Rattle.std.specs.List.{AllByRecursion as All}
+use Rattle.std.specs.List.{AllByRecursion}
 use Rattle.std.proofs.ByRecursion.{All-push}
 use Rattle.std.proofs.lemmas.Bool.Decides.{nat_tests}
 use lib.Seq.{take-append-le}
@@ -17,7 +17,7 @@ use Rattle.facts.specs.Whole.{ReadWhole, CountedWhole, Stopped}
 -- The records xs are those of facts, whose file stood before the offset; the rest is still to come.
 pub record Before (bytes : List ℕ) (xs : List Record) (at : ℕ) (rest : List ℕ) : Type 0 where
   pub rows : List Row
-  pub facts : All Fact rows
+  pub facts : AllByRecursion Fact rows
   pub are : xs ≡ records 0 rows
   pub first : bytes ≡ file rows ++ rest
   pub long : at ≡ length (file rows)
@@ -192,7 +192,7 @@ lone_not_marked bytes k l m =
 starts_long : (r : Row) (us : List ℕ) → Fact r → [] ≡ written r ++ us → ⊥
 starts_long r us f e = omega (arith, ap length e, length-append (written r) us, written_long r f)
 
-pub file_same : (rs ss : List Row) → All Fact rs → All Fact ss → file rs ≡ file ss → rs ≡ ss
+pub file_same : (rs ss : List Row) → AllByRecursion Fact rs → AllByRecursion Fact ss → file rs ≡ file ss → rs ≡ ss
 file_same [] [] f g e = refl
 file_same [] (s ∷ ss) f g e = absurd (starts_long s (file ss) g.0 e)
 file_same (r ∷ rs) [] f g e = absurd (starts_long r (file rs) f.0 (sym e))
@@ -202,7 +202,7 @@ file_same (r ∷ rs) (s ∷ ss) f g e =
     let more = file_same rs ss f.1 g.1 p.1 in
     cc
 
-pub file_not_stopped : (rs ss : List Row) (rest : List ℕ) (fault : ReadFault) → All Fact rs → All Fact ss → file rs ≡ file ss ++ rest → Refused rest fault → ⊥
+pub file_not_stopped : (rs ss : List Row) (rest : List ℕ) (fault : ReadFault) → AllByRecursion Fact rs → AllByRecursion Fact ss → file rs ≡ file ss ++ rest → Refused rest fault → ⊥
 file_not_stopped [] [] rest fault f g e h = end_not_refused fault (subst (λ bs. Refused bs fault) (sym e) h)
 file_not_stopped [] (s ∷ ss) rest fault f g e h =
     starts_long s (file ss ++ rest) g.0 (e ∙ append_assoc (written s) (file ss) rest)
@@ -278,13 +278,13 @@ read_whole bytes xs at at' left left' o b a is =
     let h : Answered at left (Ok None) at' left' = subst (λ p. Answered at left (Ok p) at' left') is a in
     (b.rows, (b.facts, b.are, b.first ∙ ap (λ t. file b.rows ++ t) h.0 ∙ append-nil (file b.rows)))
 
-pub read_exact : (bytes : List ℕ) (xs : List Record) → ReadWhole bytes xs → (rs : List Row) → All Fact rs → bytes ≡ file rs → xs ≡ records 0 rs
+pub read_exact : (bytes : List ℕ) (xs : List Record) → ReadWhole bytes xs → (rs : List Row) → AllByRecursion Fact rs → bytes ≡ file rs → xs ≡ records 0 rs
 read_exact bytes xs w rs f e = w.1.1 ∙ ap (records 0) (file_same w.0 rs w.1.0 f (sym w.1.2 ∙ e))
 
 pub stopped : (bytes : List ℕ) (xs : List Record) (at at' : ℕ) (left left' : List ℕ) (fault : ReadFault) → Before bytes xs at left → Answered at left (Err fault) at' left' → Stopped bytes (Unread fault)
 stopped bytes xs at at' left left' fault b a = (b.rows, (left, (b.facts, b.first, a.0 ∙ b.long, a.1)))
 
-pub stopped_not_file : (bytes : List ℕ) (fault : ReadFault) → Stopped bytes (Unread fault) → (rs : List Row) → All Fact rs → bytes ≡ file rs → ⊥
+pub stopped_not_file : (bytes : List ℕ) (fault : ReadFault) → Stopped bytes (Unread fault) → (rs : List Row) → AllByRecursion Fact rs → bytes ≡ file rs → ⊥
 stopped_not_file bytes fault s rs f e =
     file_not_stopped rs s.0 s.1.0 fault f s.1.1.0 (sym e ∙ s.1.1.1) s.1.1.3
 
@@ -316,5 +316,5 @@ counted_whole bytes n at at' left left' o k a is =
     let w = read_whole bytes k.records at at' left left' o k.before a is in
     (w.0, (w.1.0, k.many ∙ ap length w.1.1 ∙ records_many 0 w.0, w.1.2))
 
-pub counted_exact : (bytes : List ℕ) (n : ℕ) → CountedWhole bytes n → (rs : List Row) → All Fact rs → bytes ≡ file rs → n ≡ length rs
+pub counted_exact : (bytes : List ℕ) (n : ℕ) → CountedWhole bytes n → (rs : List Row) → AllByRecursion Fact rs → bytes ≡ file rs → n ≡ length rs
 counted_exact bytes n w rs f e = w.1.1 ∙ ap length (file_same w.0 rs w.1.0 f (sym w.1.2 ∙ e))

@@ -1,6 +1,6 @@
 // A whole facts file at once.
 ghost use Rattle.std.specs.Prelude.{◌≡◌, List, length, Ok, MatchResult};
-ghost use Rattle.std.specs.List.{AllByRecursion as All};
+ghost use Rattle.std.specs.List.{AllByRecursion};
 ghost use Rattle.rows.specs.declared.row.Row.{Row};
 ghost use Rattle.facts.specs.declared.whole.WholeFault.TheVariants.{Unread, NoMemory};
 ghost use Rattle.facts.specs.Format.{Fact, file, records};
@@ -38,7 +38,7 @@ impl<T: Drop> From<AllocFailed<T>> for WholeFault {
 // and bytes that are read to their end are the file of the facts that were read.
 pub fn read_all(heap: Global, bytes: &[u8]) -> Result<Vec<Record>, WholeFault>
     ensures stands { MatchResult result (λ v. ReadWhole bytes.now v.items) (λ e. Stopped bytes.now e) }
-    ensures exact { (rows : List Row) → All Fact rows → bytes.now ≡ file rows → MatchResult result (λ v. v.items ≡ records 0 rows) (λ e. e ≡ NoMemory) }
+    ensures exact { (rows : List Row) → AllByRecursion Fact rows → bytes.now ≡ file rows → MatchResult result (λ v. v.items ≡ records 0 rows) (λ e. e ≡ NoMemory) }
 {
     let mut reader = Reader::new(bytes);
     let mut found = Vec::new(heap);
@@ -51,7 +51,7 @@ pub fn read_all(heap: Global, bytes: &[u8]) -> Result<Vec<Record>, WholeFault>
 // How many records a file has. It allocates nothing, so it refuses only what the reader refuses.
 pub fn count_records(bytes: &[u8]) -> Result<usize, ReadFault>
     ensures stands { MatchResult result (λ n. CountedWhole bytes.now n) (λ fault. Stopped bytes.now (Unread fault)) }
-    ensures exact { (rows : List Row) → All Fact rows → bytes.now ≡ file rows → result ≡ Ok (length rows) }
+    ensures exact { (rows : List Row) → AllByRecursion Fact rows → bytes.now ≡ file rows → result ≡ Ok (length rows) }
 {
     let mut reader = Reader::new(bytes);
     let mut count = 0;

@@ -1,6 +1,6 @@
 -- The rows of a relation as reads answer them, one after another, and the relations in order.
 use Rattle.std.proofs.Common.{◌≡◌, ℕ, ◌+◌, ◌<◌, ◌≤◌, true, false, List, [], ◌∷◌, ◌++◌, Some, sym, refl, ap, ◌∙◌, subst, ⊎_elim, arith}
-use Rattle.std.specs.List.{AllByRecursion as All}
+use Rattle.std.specs.List.{AllByRecursion}
 use Rattle.std.proofs.ByRecursion.{All-weaker}
 use Rattle.std.proofs.lemmas.Bool.{cases_Bool, cases_eq}
 use Rattle.rows.specs.declared.row.Row.{Row}
@@ -11,19 +11,19 @@ use Rattle.rows.proofs.Sets.{all_has}
 use Rattle.rows.proofs.Adds.{relation_below}
 use Rattle.rows.proofs.Scan.{rest_skip, rest_stop, rest_some, first_held, of_in, of_out, none_above}
 
-all_of : (P : Row → Type 0) (k : ℕ) (xs : List Row) → All P xs → All P (of_relation k xs)
+all_of : (P : Row → Type 0) (k : ℕ) (xs : List Row) → AllByRecursion P xs → AllByRecursion P (of_relation k xs)
 unfolding of_relation
 all_of P k [] a = tt
 all_of P k (x ∷ xs) a =
-    ⊎_elim (λ e. subst (All P) (sym (of_in k x xs e)) (a.0, all_of P k xs a.1))
-    (λ n. subst (All P) (sym (of_out k x xs n)) (all_of P k xs a.1)) (cases_eq x.relation k)
+    ⊎_elim (λ e. subst (AllByRecursion P) (sym (of_in k x xs e)) (a.0, all_of P k xs a.1))
+    (λ n. subst (AllByRecursion P) (sym (of_out k x xs n)) (all_of P k xs a.1)) (cases_eq x.relation k)
 
-of_is : (k : ℕ) (xs : List Row) → All (λ (y : Row). y.relation ≡ k) (of_relation k xs)
+of_is : (k : ℕ) (xs : List Row) → AllByRecursion (λ (y : Row). y.relation ≡ k) (of_relation k xs)
 unfolding of_relation
 of_is k [] = tt
 of_is k (x ∷ xs) =
-    ⊎_elim (λ e. subst (All (λ (y : Row). y.relation ≡ k)) (sym (of_in k x xs e)) (e, of_is k xs))
-    (λ n. subst (All (λ (y : Row). y.relation ≡ k)) (sym (of_out k x xs n)) (of_is k xs)) (cases_eq x.relation k)
+    ⊎_elim (λ e. subst (AllByRecursion (λ (y : Row). y.relation ≡ k)) (sym (of_in k x xs e)) (e, of_is k xs))
+    (λ n. subst (AllByRecursion (λ (y : Row). y.relation ≡ k)) (sym (of_out k x xs n)) (of_is k xs)) (cases_eq x.relation k)
 
 asc_of : (k : ℕ) (xs : List Row) → Asc xs → Asc (of_relation k xs)
 unfolding of_relation
@@ -42,12 +42,12 @@ high_not_before : (k : ℕ) (x : Row) → k ≤ x.relation → before x (start k
 high_not_before k x l =
     ⊎_elim (λ e. let no_way : ⊥ = (let m = before_start k x e in omega arith) in absurd no_way) (λ e. e) (cases_Bool (before x (start k)))
 
-rest_all : (k : ℕ) (xs : List Row) → All (λ (y : Row). k ≤ y.relation) xs → rest (start k) xs ≡ xs
+rest_all : (k : ℕ) (xs : List Row) → AllByRecursion (λ (y : Row). k ≤ y.relation) xs → rest (start k) xs ≡ xs
 unfolding rest
 rest_all k [] a = refl
 rest_all k (x ∷ xs) a = rest_stop (start k) x xs (high_not_before k x a.0)
 
-rest_none_of : (k : ℕ) (xs : List Row) → All (λ (y : Row). y.relation < k) xs → rest (start k) xs ≡ []
+rest_none_of : (k : ℕ) (xs : List Row) → AllByRecursion (λ (y : Row). y.relation < k) xs → rest (start k) xs ≡ []
 unfolding rest
 rest_none_of k [] a = refl
 rest_none_of k (x ∷ xs) a = rest_skip (start k) x xs (low_before k x a.0) ∙ rest_none_of k xs a.1
@@ -58,7 +58,7 @@ read_all k xs = rest_all k (of_relation k xs) (All-weaker _ _ (λ y e. omega ari
 
 module _ (k : ℕ) (q r : Row) (xs : List Row) (asc : Asc xs) (e : first_from (of_relation k xs) q ≡ Some r) where
   -- what is read satisfies what all rows satisfy
-  pub read_has : (P : Row → Type 0) → All P xs → P r
+  pub read_has : (P : Row → Type 0) → AllByRecursion P xs → P r
   read_has P a = all_has P (of_relation k xs) r (all_of P k xs a) (first_held q r (of_relation k xs) e)
 
   pub read_step : rest q (of_relation k xs) ≡ r ∷ rest (row3 k r.a r.b (r.c + 1)) (of_relation k xs)
@@ -80,7 +80,7 @@ relation_first k (x ∷ xs) a =
     ∙ ap (λ ys. of_relation k (x ∷ xs) ++ ys) (sym (rest_skip (start (k + 1)) x xs (low_before (k + 1) x (omega arith)))))
     (λ p.
     let low : k ≤ x.relation = not_before_relation x (start k) p in
-    let later : All (λ (y : Row). x.relation ≤ y.relation) xs = All-weaker _ _ (λ y b. before_relation x y b) xs a.0 in
+    let later : AllByRecursion (λ (y : Row). x.relation ≤ y.relation) xs = All-weaker _ _ (λ y b. before_relation x y b) xs a.0 in
     ⊎_elim
     (λ e.
     rest_stop (start k) x xs p
@@ -96,5 +96,5 @@ relation_first k (x ∷ xs) a =
     (cases_Bool (before x (start k)))
 
 -- no row is past the forty relations
-pub none_past : (w k : ℕ) (xs : List Row) → 40 ≤ k → All (λ x. admissible w x ≡ true) xs → rest (start k) xs ≡ []
+pub none_past : (w k : ℕ) (xs : List Row) → 40 ≤ k → AllByRecursion (λ x. admissible w x ≡ true) xs → rest (start k) xs ≡ []
 none_past w k xs h a = rest_none_of k xs (All-weaker _ _ (λ y b. let l = relation_below w y b in omega arith) xs a)

@@ -1,6 +1,6 @@
 -- A file loaded record by record: what the table has taken so far.
 use Rattle.std.proofs.Common.{◌≡◌, ℕ, zero, suc, ◌+◌, ◌<◌, ◌≤◌, Bool, true, false, cond, ◌&&◌, ◌||◌, eqb, ltb, List, [], ◌∷◌, ◌++◌, length, Some, None, Ok, Err, Option, Result, sym, refl, ap, ◌∙◌, subst, ⊎_elim, append_assoc, append-nil, le_of_suc-le-suc, not-suc-le-zero, add-zero, eq-or-lt_of_le, arith, length-append, eqb-true}
-use Rattle.std.specs.List.{AllByRecursion as All}
+use Rattle.std.specs.List.{AllByRecursion}
 use Rattle.std.proofs.ByRecursion.{All-push, All-weaker}
 use Rattle.std.proofs.lemmas.Bool.{and_parts}
 use Rattle.std.proofs.lemmas.Bool.Decides.{nat_tests}
@@ -137,7 +137,7 @@ module _ {S : Type 0} (rows : S → List Row) (bounds : S → Limits) (grew : S 
               are = All-push Fact b.facts r b.took.are a.1;
               filled = filled_more rows bounds grew s b.facts t r u (Ok x.outcome) f h.1 h.2 h.3 h.4;
               held =
-                  subst (λ ys. All (λ q. has ys q ≡ true) (b.facts ++ r ∷ [])) (sym h.2)
+                  subst (λ ys. AllByRecursion (λ q. has ys q ≡ true) (b.facts ++ r ∷ [])) (sym h.2)
                   (All-push (λ q. has (rows_after (rows t) r (Ok x.outcome)) q ≡ true) b.facts r
                   (All-weaker (λ q. has (rows t) q ≡ true) (λ q. has (rows_after (rows t) r (Ok x.outcome)) q ≡ true) (λ q k. still_held (rows t) r q x.outcome k) b.facts b.took.held)
                   (now_held (bounds t) (rows t) r x.outcome h.1));

@@ -1,6 +1,6 @@
 -- The derived rows of a facts file.
 use Rattle.std.specs.Prelude.{◌≡◌, ℕ, ◌≤◌, true, ◌↔◌, List, [], Ok, Err, Result, ◌≢◌}
-use Rattle.std.specs.List.{AllByRecursion as All}
+use Rattle.std.specs.List.{AllByRecursion}
 use Rattle.rows.specs.declared.row.Row.{Row}
 use Rattle.rows.specs.declared.answer.Limits.{Limits}
 use Rattle.rows.specs.Rows.{has, Asc, rest, start}
@@ -31,7 +31,7 @@ pub record DerivedRows (facts found : List Row) : Type 0 where
 
 -- The bytes are the file of facts, and the rows are those that derive from them.
 abbrev pub Lists : List ℕ → List Row → Type 0
-Lists bytes found = (facts : List Row) × (All Fact facts × (bytes ≡ file facts) × DerivedRows facts found)
+Lists bytes found = (facts : List Row) × (AllByRecursion Fact facts × (bytes ≡ file facts) × DerivedRows facts found)
 
 module _ {S : Type 0} (rows : S → List Row) (bounds : S → Limits) (grew : S → Row → S → Type 0) where
   -- Why a run that lists some bytes on a table s was refused a call other than a put, and the table u that it leaves: s is not

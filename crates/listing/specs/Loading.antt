@@ -1,6 +1,6 @@
 -- Facts read from a file and added to a table, one after another.
 use Rattle.std.specs.Prelude.{◌≡◌, ℕ, true, List, ◌++◌, length, Some, None, Ok, Err, Option, Result}
-use Rattle.std.specs.List.{AllByRecursion as All}
+use Rattle.std.specs.List.{AllByRecursion}
 use Rattle.rows.specs.declared.row.Row.{Row}
 use Rattle.rows.specs.declared.answer.Limits.{Limits}
 use Rattle.rows.specs.declared.answer.Outcome.{Outcome}
@@ -48,9 +48,9 @@ module _ {S : Type 0} (rows : S → List Row) (bounds : S → Limits) (grew : S 
 
   -- A table s became t as some facts were added in turn, and none of them was refused.
   pub record Took (s : S) (facts : List Row) (t : S) : Type 0 where
-    pub are : All Fact facts
+    pub are : AllByRecursion Fact facts
     pub filled : Filled rows bounds grew (bounds s) s facts t
-    pub held : All (λ r. has (rows t) r ≡ true) facts
+    pub held : AllByRecursion (λ r. has (rows t) r ≡ true) facts
 
   -- What loading some bytes into a table s answers, and the table t that it leaves.
   abbrev pub Loading : List ℕ → S → Result ℕ ListingFault → S → Type 0

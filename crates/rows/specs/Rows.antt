@@ -1,6 +1,6 @@
 -- Rows, their order, and finite sets of rows as strictly ascending lists.
 use Rattle.std.specs.Prelude.{◌≡◌, ℕ, ◌+◌, Bool, true, false, cond, ◌&&◌, ◌||◌, List, [], ◌∷◌, Some, None, Option, ◌==◌, nat_lt}
-use Rattle.std.specs.List.{AllByRecursion as All}
+use Rattle.std.specs.List.{AllByRecursion}
 use Rattle.rows.specs.declared.row.Row.{Row}
 
 -- by relation, then code by code
@@ -35,7 +35,7 @@ admissible w r =
 -- A set of rows is a strictly ascending list.
 abbrev pub Asc : List Row → Type 0
 Asc [] = Unit {0}
-Asc (x ∷ xs) = All (λ y. before x y ≡ true) xs × Asc xs
+Asc (x ∷ xs) = AllByRecursion (λ y. before x y ≡ true) xs × Asc xs
 
 unfoldable pub has : List Row → Row → Bool
 has [] r = false
