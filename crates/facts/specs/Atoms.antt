@@ -1,12 +1,12 @@
 -- A number or a point is what its fields say: a range holds in one way.
-use Rattle.std.specs.Prelude.{◌≡◌, ℕ, ◌<◌, ◌≤◌, Bool, true, false, T, Some, nat_le, nat_lt, refl}
+use Rattle.std.specs.Prelude.{◌≡◌, ℕ, ◌+◌, ◌*◌, ◌/◌, ◌%◌, ◌<◌, ◌≤◌, Bool, true, false, T, Some, nat_le, nat_lt, refl}
 use Rattle.std.proofs.Common.{sym, ap, arith, leb→le, ltb→lt, lt-ltb, le-leb}
 use mathlib.Core.HLevel.{is_prop→PathP}
 use Rattle.std.proofs.Math.Bridge.{le_prop}
 use Rattle.facts.specs.declared.number.Number.{Number}
 use Rattle.facts.specs.declared.point.Point.{Point}
 use Rattle.facts.specs.Numbers.{number_when, number_of}
-use Rattle.facts.specs.Points.{point_when, point_at}
+use Rattle.facts.specs.Points.{point_when, point_at, point_number, point_of}
 
 same_number : (x y : Number) → x.value ≡ y.value → x ≡ y
 same_number x y e j = record {
@@ -48,3 +48,11 @@ module _ (b s h : ℕ) (x : Point) (eb : b ≡ x.block) (es : s ≡ x.statement)
       let ih : h ≤ 1 = omega (arith, x.halves) in
       point_some (nat_le b 1022) (nat_le s 31) (nat_le h 1) (leb→le b 1022) (leb→le s 31) (leb→le h 1)
       (le-leb b 1022 ib) (le-leb s 31 is) (le-leb h 1 ih)
+
+-- the point of a point's number is that point
+pub point_back : (x : Point) → point_of (point_number x) ≡ Some x
+point_back x =
+    let b : (x.block * 64 + x.statement * 2 + x.half) / 64 ≡ x.block = omega (arith, x.statements, x.halves) in
+    let s : (x.block * 64 + x.statement * 2 + x.half) % 64 / 2 ≡ x.statement = omega (arith, x.statements, x.halves) in
+    let h : (x.block * 64 + x.statement * 2 + x.half) % 2 ≡ x.half = omega (arith, x.statements, x.halves) in
+    point_made _ _ _ x b s h

@@ -2,7 +2,7 @@
 ghost use Rattle.std.specs.Prelude.{◌≡◌};
 ghost use Rattle.facts.specs.Numbers.{number_of};
 ghost use Rattle.facts.specs.Atoms.{number_made};
-ghost use Rattle.std.proofs.Common.{rules, arith};
+ghost use Rattle.std.proofs.Common.{rules};
 
 use crate::atom::{Atom, FactTypes};
 use crate::number::Number;
@@ -34,11 +34,11 @@ impl Atom for Number {
 
     ghost atom = { number_of };
 
-    ghost below = { first_of (Prim.search rules, Prim.grind (arith, Self.row.coded.inj)) };
+    ghost below = { Prim.search rules };
 
-    ghost back = { λ x. number_made x };
+    ghost back = { number_made };
 
-    ghost forth = { first_of (Prim.search rules, Prim.grind (arith, Self.row.coded.inj)) };
+    ghost forth = { Prim.search rules };
 
     fn code(self) -> u32 {
         Number::value(self)

@@ -1,8 +1,8 @@
 // Making a point, and its meaning as an atom.
-ghost use Rattle.std.specs.Prelude.{◌≡◌, ◌+◌, ◌*◌, ◌/◌, ◌%◌};
+ghost use Rattle.std.specs.Prelude.{◌≡◌};
 ghost use Rattle.facts.specs.Points.{point_at, point_number, point_of};
-ghost use Rattle.std.proofs.Common.{arith, rules};
-ghost use Rattle.facts.specs.Atoms.{point_made};
+ghost use Rattle.std.proofs.Common.{rules};
+ghost use Rattle.facts.specs.Atoms.{point_back};
 
 use crate::atom::{Atom, FactTypes};
 use crate::number::Number;
@@ -48,15 +48,11 @@ impl Atom for Point {
 
     ghost atom = { point_of };
 
-    ghost below = { first_of (Prim.search rules, Prim.grind (arith, Self.row.coded.inj)) };
+    ghost below = { Prim.search rules };
 
-    ghost back = { λ x.
-        let b : (x.block * 64 + x.statement * 2 + x.half) / 64 ≡ x.block = omega (arith, x.statements, x.halves) in
-        let s : (x.block * 64 + x.statement * 2 + x.half) % 64 / 2 ≡ x.statement = omega (arith, x.statements, x.halves) in
-        let h : (x.block * 64 + x.statement * 2 + x.half) % 2 ≡ x.half = omega (arith, x.statements, x.halves) in
-        point_made _ _ _ x b s h };
+    ghost back = { point_back };
 
-    ghost forth = { first_of (Prim.search rules, Prim.grind (arith, Self.row.coded.inj)) };
+    ghost forth = { Prim.search rules };
 
     fn code(self) -> u32 {
         let Point {
