@@ -1,4 +1,7 @@
 // Rows in words: the name of the relation, and what each code is.
+ghost use Rattle.std.specs.Prelude.{◌≡◌, ◌<◌, ◌≤◌, []};
+ghost use Rattle.facts.specs.Format.{mark};
+
 use rows::relation::*;
 use rows::row::Row;
 use std::fmt;
@@ -9,8 +12,11 @@ const MARKS: [&str; 18] = [
     "KS", "PL",
 ];
 
-// The mark of a relation; empty where it has none.
-pub fn mark_of(relation: u32) -> &'static str {
+// The mark of a relation, as the format of facts files has it; empty where it has none.
+pub fn mark_of(relation: u32) -> &'static str
+    ensures fact { relation < 18 → result.now ≡ mark relation }
+    ensures none { 18 ≤ relation → result.now ≡ [] }
+{
     let at = relation as usize;
     if at < MARKS.len() { MARKS[at] } else { "" }
 }

@@ -1,11 +1,15 @@
 // The example of eight facts, from which 22 rows are derived.
+ghost use Rattle.std.specs.Prelude.{◌≡◌};
+
 use rows::relation::{
     CFG_EDGE, LOAN_INVALIDATED_AT, LOAN_ISSUED_AT, SUBSET_BASE, USE_OF_VAR_DEREFS_ORIGIN,
     VAR_USED_AT,
 };
 use rows::row::Row;
 
-pub fn row(relation: u32, a: u32, b: u32, c: u32) -> Row {
+pub fn row(relation: u32, a: u32, b: u32, c: u32) -> Row
+    ensures { result ≡ record { relation = relation; a = a; b = b; c = c } }
+{
     Row { relation, a, b, c }
 }
 
