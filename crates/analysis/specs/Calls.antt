@@ -6,8 +6,8 @@ use Rattle.rows.specs.declared.answer.Outcome.{Outcome}
 use Rattle.rows.specs.declared.answer.Outcome.TheVariants.{Held, Added}
 use Rattle.rows.specs.declared.answer.TableFault.{TableFault}
 use Rattle.rows.specs.Rows.{insert, first_from, of_relation}
-use Rattle.rows.specs.Tables.{add_answer}
-use Rattle.output.specs.declared.progress.Progress.{Progress}
+use Rattle.rows.specs.Tables.{Meaning, add_answer}
+use Rattle.datalog.specs.declared.progress.Progress.{Progress}
 use Rattle.output.specs.Completion.{Missing}
 use Rattle.output.specs.Progressing.{Completing}
 use Rattle.analysis.specs.declared.fault.Refusal.{Refusal}
@@ -51,24 +51,24 @@ PutChanged grew s r (Ok Held) t = t ≡ s
 PutChanged grew s r (Ok Added) t = grew s r t
 PutChanged grew s r (Err e) t = t ≡ s
 
-pub record Putting {S : Type 0} (rows : S → List Row) (bounds : S → Limits) (grew : S → Row → S → Type 0) (s : S) (n : ℕ) (r : Row) (a : Result Outcome RunFault) (t : S) (n' : ℕ) : Type 0 where
-  pub answer : a ≡ put_answer (bounds s) (rows s) n r
+pub record Putting {S : Type 0} (M : Meaning S) (s : S) (n : ℕ) (r : Row) (a : Result Outcome RunFault) (t : S) (n' : ℕ) : Type 0 where
+  pub answer : a ≡ put_answer (M.bounds s) (M.rows s) n r
   pub facts : n' ≡ facts_after n a
-  pub after : rows t ≡ rows_put (rows s) r a
-  pub kept : bounds t ≡ bounds s
-  pub changed : PutChanged grew s r a t
+  pub after : M.rows t ≡ rows_put (M.rows s) r a
+  pub kept : M.bounds t ≡ M.bounds s
+  pub changed : PutChanged M.grew s r a t
 
 -- advance: missing rows are added; the only refusal is the table's, whole, with the relation and the number of rows added.
-abbrev pub Stopping : {S : Type 0} → (S → List Row) → (S → Limits) → (S → Row → S → Type 0) → ℕ → S → RunFault → S → Type 0
-Stopping rows bounds grew budget s NotEmpty t = ⊥
-Stopping rows bounds grew budget s NotFact t = ⊥
-Stopping rows bounds grew budget s RowsMissing t = ⊥
-Stopping rows bounds grew budget s (Refused refusal) t = ⊥
-Stopping rows bounds grew budget s (Stopped stop) t = Completing rows bounds grew budget s (Err stop) t
+abbrev pub Stopping : {S : Type 0} → Meaning S → ℕ → S → RunFault → S → Type 0
+Stopping M budget s NotEmpty t = ⊥
+Stopping M budget s NotFact t = ⊥
+Stopping M budget s RowsMissing t = ⊥
+Stopping M budget s (Refused refusal) t = ⊥
+Stopping M budget s (Stopped stop) t = Completing M budget s (Err stop) t
 
-abbrev pub Advancing : {S : Type 0} → (S → List Row) → (S → Limits) → (S → Row → S → Type 0) → ℕ → S → Result Progress RunFault → S → Type 0
-Advancing rows bounds grew budget s (Ok p) t = Completing rows bounds grew budget s (Ok p) t
-Advancing rows bounds grew budget s (Err f) t = Stopping rows bounds grew budget s f t
+abbrev pub Advancing : {S : Type 0} → Meaning S → ℕ → S → Result Progress RunFault → S → Type 0
+Advancing M budget s (Ok p) t = Completing M budget s (Ok p) t
+Advancing M budget s (Err f) t = Stopping M budget s f t
 
 -- settle: Done if no row is missing, or else the run is handed back.
 abbrev pub Settling : List Row → Running → Result Done Unfinished → Type 0

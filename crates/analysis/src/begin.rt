@@ -7,7 +7,7 @@ use table::Table;
 
 // Begins a run on an empty table.
 pub fn begin<T: Table>(t: &T) -> Result<Filling, RunFault>
-    ensures { result ≡ begun (T.Table.rows t.now) }
+    ensures { result ≡ begun (T.means.rows t.now) }
 {
     if t.count() == 0 {
         Ok(Filling { facts: 0 })

@@ -10,8 +10,8 @@ use table::Table;
 impl Running {
     // Adds missing rows, at most as many as the budget.
     pub fn advance<T: Table>(&mut self, t: &mut T, budget: u32) -> Result<Progress, RunFault>
-        ensures does { Advancing T.Table.rows T.Table.bounds T.Table.grew budget t.old result t.new }
-        ensures kept { T.Table.bounds t.new ≡ T.Table.bounds t.old }
+        ensures does { Advancing T.means budget t.old result t.new }
+        ensures kept { T.means.bounds t.new ≡ T.means.bounds t.old }
         ensures same { self.new ≡ self.old }
     {
         Ok(complete(t, budget)?)
@@ -19,7 +19,7 @@ impl Running {
 
     // Ends the run, if no row is missing.
     pub fn settle<T: Table>(self, t: &T) -> Result<Done, Unfinished>
-        ensures { Settling (T.Table.rows t.now) self result }
+        ensures { Settling (T.means.rows t.now) self result }
     {
         if is_complete(t) {
             Ok(Done { facts: self.facts })

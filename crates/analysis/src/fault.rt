@@ -6,13 +6,13 @@ use output::progress::Stop;
 use rows::answer::TableFault;
 
 // The table's refusal of a fact, whole, with the number of facts added so far.
-#[derive(Clone, Copy)]
+#[derive(Clone, Copy, PartialEq, Eq, Debug)]
 pub struct Refusal {
     pub facts: u32,
     pub fault: TableFault,
 }
 
-#[derive(Clone, Copy)]
+#[derive(Clone, Copy, PartialEq, Eq, Debug)]
 pub enum RunFault {
     // begin: the table holds a row.
     NotEmpty,

@@ -1,13 +1,12 @@
 // A fact in atoms, and the row that stands for it.
 ghost use Rattle.std.specs.Prelude.{◌≡◌};
-ghost use Rattle.rows.specs.Relations.{row1, row2, row3};
 ghost use Rattle.atom_puts.specs.Facts.{row_of};
 
 use facts::atom::{Atom, FactTypes};
 use rows::relation;
 use rows::row::Row;
 
-#[derive(Drop)]
+#[derive(Clone, Drop, PartialEq, Eq, Debug)]
 pub enum Fact<F: FactTypes> {
     LoanIssuedAt(F::Origin, F::Loan, F::Point),
     UniversalRegion(F::Origin),
@@ -29,108 +28,104 @@ pub enum Fact<F: FactTypes> {
     Placeholder(F::Origin, F::Loan),
 }
 
-// The row of a fact: its relation, and the numbers of its atoms.
+// The row of a fact: its relation, and the numbers of its atoms. Here and above, the five number functions stand one by one: as
+// one member of `FactTypes` they would need a law that ties them to the kinds, which every implementor had to prove.
 pub fn row_of<F: FactTypes>(fact: &Fact<F>) -> Row
     ensures { result ≡ row_of F.Origin.Atom.number F.Loan.Atom.number F.Point.Atom.number F.Variable.Atom.number F.Path.Atom.number fact.now }
 {
     match fact {
-        Fact::LoanIssuedAt(origin, loan, point) => row3(
+        Fact::LoanIssuedAt(origin, loan, point) => Row::new(
             relation::LOAN_ISSUED_AT,
-            (*origin).code(),
-            (*loan).code(),
-            (*point).code(),
+            origin.code(),
+            loan.code(),
+            point.code(),
         ),
-        Fact::UniversalRegion(origin) => row1(relation::UNIVERSAL_REGION, (*origin).code()),
-        Fact::CfgEdge(point1, point2) => row2(
+        Fact::UniversalRegion(origin) => Row::new(relation::UNIVERSAL_REGION, origin.code(), 0, 0),
+        Fact::CfgEdge(point1, point2) => Row::new(
             relation::CFG_EDGE,
-            (*point1).code(),
-            (*point2).code(),
+            point1.code(),
+            point2.code(),
+            0,
         ),
-        Fact::LoanKilledAt(loan, point) => row2(
+        Fact::LoanKilledAt(loan, point) => Row::new(
             relation::LOAN_KILLED_AT,
-            (*loan).code(),
-            (*point).code(),
+            loan.code(),
+            point.code(),
+            0,
         ),
-        Fact::SubsetBase(origin1, origin2, point) => row3(
+        Fact::SubsetBase(origin1, origin2, point) => Row::new(
             relation::SUBSET_BASE,
-            (*origin1).code(),
-            (*origin2).code(),
-            (*point).code(),
+            origin1.code(),
+            origin2.code(),
+            point.code(),
         ),
-        Fact::LoanInvalidatedAt(point, loan) => row2(
+        Fact::LoanInvalidatedAt(point, loan) => Row::new(
             relation::LOAN_INVALIDATED_AT,
-            (*point).code(),
-            (*loan).code(),
+            point.code(),
+            loan.code(),
+            0,
         ),
-        Fact::VarUsedAt(var, point) => row2(relation::VAR_USED_AT, (*var).code(), (*point).code()),
-        Fact::VarDefinedAt(var, point) => row2(
+        Fact::VarUsedAt(var, point) => Row::new(relation::VAR_USED_AT, var.code(), point.code(), 0),
+        Fact::VarDefinedAt(var, point) => Row::new(
             relation::VAR_DEFINED_AT,
-            (*var).code(),
-            (*point).code(),
+            var.code(),
+            point.code(),
+            0,
         ),
-        Fact::VarDroppedAt(var, point) => row2(
+        Fact::VarDroppedAt(var, point) => Row::new(
             relation::VAR_DROPPED_AT,
-            (*var).code(),
-            (*point).code(),
+            var.code(),
+            point.code(),
+            0,
         ),
-        Fact::UseOfVarDerefsOrigin(var, origin) => row2(
+        Fact::UseOfVarDerefsOrigin(var, origin) => Row::new(
             relation::USE_OF_VAR_DEREFS_ORIGIN,
-            (*var).code(),
-            (*origin).code(),
+            var.code(),
+            origin.code(),
+            0,
         ),
-        Fact::DropOfVarDerefsOrigin(var, origin) => row2(
+        Fact::DropOfVarDerefsOrigin(var, origin) => Row::new(
             relation::DROP_OF_VAR_DEREFS_ORIGIN,
-            (*var).code(),
-            (*origin).code(),
+            var.code(),
+            origin.code(),
+            0,
         ),
-        Fact::ChildPath(child, parent) => row2(
+        Fact::ChildPath(child, parent) => Row::new(
             relation::CHILD_PATH,
-            (*child).code(),
-            (*parent).code(),
+            child.code(),
+            parent.code(),
+            0,
         ),
-        Fact::PathIsVar(path, var) => row2(relation::PATH_IS_VAR, (*path).code(), (*var).code()),
-        Fact::PathAssignedAtBase(path, point) => row2(
+        Fact::PathIsVar(path, var) => Row::new(relation::PATH_IS_VAR, path.code(), var.code(), 0),
+        Fact::PathAssignedAtBase(path, point) => Row::new(
             relation::PATH_ASSIGNED_AT_BASE,
-            (*path).code(),
-            (*point).code(),
+            path.code(),
+            point.code(),
+            0,
         ),
-        Fact::PathMovedAtBase(path, point) => row2(
+        Fact::PathMovedAtBase(path, point) => Row::new(
             relation::PATH_MOVED_AT_BASE,
-            (*path).code(),
-            (*point).code(),
+            path.code(),
+            point.code(),
+            0,
         ),
-        Fact::PathAccessedAtBase(path, point) => row2(
+        Fact::PathAccessedAtBase(path, point) => Row::new(
             relation::PATH_ACCESSED_AT_BASE,
-            (*path).code(),
-            (*point).code(),
+            path.code(),
+            point.code(),
+            0,
         ),
-        Fact::KnownPlaceholderSubset(origin1, origin2) => row2(
+        Fact::KnownPlaceholderSubset(origin1, origin2) => Row::new(
             relation::KNOWN_PLACEHOLDER_SUBSET,
-            (*origin1).code(),
-            (*origin2).code(),
+            origin1.code(),
+            origin2.code(),
+            0,
         ),
-        Fact::Placeholder(origin, loan) => row2(
+        Fact::Placeholder(origin, loan) => Row::new(
             relation::PLACEHOLDER,
-            (*origin).code(),
-            (*loan).code(),
+            origin.code(),
+            loan.code(),
+            0,
         ),
     }
-}
-
-fn row1(relation: u32, a: u32) -> Row
-    ensures { result ≡ row1 relation a }
-{
-    row3(relation, a, 0, 0)
-}
-
-fn row2(relation: u32, a: u32, b: u32) -> Row
-    ensures { result ≡ row2 relation a b }
-{
-    row3(relation, a, b, 0)
-}
-
-fn row3(relation: u32, a: u32, b: u32, c: u32) -> Row
-    ensures { result ≡ row3 relation a b c }
-{
-    Row { relation, a, b, c }
 }

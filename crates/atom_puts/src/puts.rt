@@ -1,4 +1,5 @@
-// The puts of facts in atoms, one for each fact relation: each puts the row of its atoms' numbers.
+// The puts of facts in atoms, one for each fact relation: each puts the row of its atoms' numbers. `put_fact` is the one that they
+// are made of; a caller has them by name, as the analysis is laid down.
 ghost use Rattle.std.specs.Prelude.{◌≡◌};
 ghost use Rattle.rows.specs.Relations.{loan_issued_at, universal_region, cfg_edge, loan_killed_at, subset_base, loan_invalidated_at, var_used_at, var_defined_at, var_dropped_at, use_of_var_derefs_origin, drop_of_var_derefs_origin, child_path, path_is_var, path_assigned_at_base, path_moved_at_base, path_accessed_at_base, known_placeholder_subset, placeholder};
 ghost use Rattle.analysis.specs.Calls.{Putting};
@@ -17,7 +18,7 @@ pub fn put_fact<F: FactTypes, T: Table>(
     t: &mut T,
     fact: &Fact<F>,
 ) -> Result<Outcome, RunFault>
-    ensures { Putting T.Table.rows T.Table.bounds T.Table.grew t.old filling.old.facts (row_of F.Origin.Atom.number F.Loan.Atom.number F.Point.Atom.number F.Variable.Atom.number F.Path.Atom.number fact.now) result t.new filling.new.facts }
+    ensures { Putting T.means t.old filling.old.facts (row_of F.Origin.Atom.number F.Loan.Atom.number F.Point.Atom.number F.Variable.Atom.number F.Path.Atom.number fact.now) result t.new filling.new.facts }
 {
     filling.put(t, row_of(fact))
 }
@@ -30,7 +31,7 @@ pub fn put_loan_issued_at<F: FactTypes, T: Table>(
     loan: F::Loan,
     point: F::Point,
 ) -> Result<Outcome, RunFault>
-    ensures { Putting T.Table.rows T.Table.bounds T.Table.grew t.old filling.old.facts (loan_issued_at (F.Origin.Atom.number origin) (F.Loan.Atom.number loan) (F.Point.Atom.number point)) result t.new filling.new.facts }
+    ensures { Putting T.means t.old filling.old.facts (loan_issued_at (F.Origin.Atom.number origin) (F.Loan.Atom.number loan) (F.Point.Atom.number point)) result t.new filling.new.facts }
 {
     put_fact::<F, T>(filling, t, &Fact::LoanIssuedAt(origin, loan, point))
 }
@@ -41,7 +42,7 @@ pub fn put_universal_region<F: FactTypes, T: Table>(
     t: &mut T,
     origin: F::Origin,
 ) -> Result<Outcome, RunFault>
-    ensures { Putting T.Table.rows T.Table.bounds T.Table.grew t.old filling.old.facts (universal_region (F.Origin.Atom.number origin)) result t.new filling.new.facts }
+    ensures { Putting T.means t.old filling.old.facts (universal_region (F.Origin.Atom.number origin)) result t.new filling.new.facts }
 {
     put_fact::<F, T>(filling, t, &Fact::UniversalRegion(origin))
 }
@@ -53,7 +54,7 @@ pub fn put_cfg_edge<F: FactTypes, T: Table>(
     point1: F::Point,
     point2: F::Point,
 ) -> Result<Outcome, RunFault>
-    ensures { Putting T.Table.rows T.Table.bounds T.Table.grew t.old filling.old.facts (cfg_edge (F.Point.Atom.number point1) (F.Point.Atom.number point2)) result t.new filling.new.facts }
+    ensures { Putting T.means t.old filling.old.facts (cfg_edge (F.Point.Atom.number point1) (F.Point.Atom.number point2)) result t.new filling.new.facts }
 {
     put_fact::<F, T>(filling, t, &Fact::CfgEdge(point1, point2))
 }
@@ -65,7 +66,7 @@ pub fn put_loan_killed_at<F: FactTypes, T: Table>(
     loan: F::Loan,
     point: F::Point,
 ) -> Result<Outcome, RunFault>
-    ensures { Putting T.Table.rows T.Table.bounds T.Table.grew t.old filling.old.facts (loan_killed_at (F.Loan.Atom.number loan) (F.Point.Atom.number point)) result t.new filling.new.facts }
+    ensures { Putting T.means t.old filling.old.facts (loan_killed_at (F.Loan.Atom.number loan) (F.Point.Atom.number point)) result t.new filling.new.facts }
 {
     put_fact::<F, T>(filling, t, &Fact::LoanKilledAt(loan, point))
 }
@@ -78,7 +79,7 @@ pub fn put_subset_base<F: FactTypes, T: Table>(
     origin2: F::Origin,
     point: F::Point,
 ) -> Result<Outcome, RunFault>
-    ensures { Putting T.Table.rows T.Table.bounds T.Table.grew t.old filling.old.facts (subset_base (F.Origin.Atom.number origin1) (F.Origin.Atom.number origin2) (F.Point.Atom.number point)) result t.new filling.new.facts }
+    ensures { Putting T.means t.old filling.old.facts (subset_base (F.Origin.Atom.number origin1) (F.Origin.Atom.number origin2) (F.Point.Atom.number point)) result t.new filling.new.facts }
 {
     put_fact::<F, T>(filling, t, &Fact::SubsetBase(origin1, origin2, point))
 }
@@ -90,7 +91,7 @@ pub fn put_loan_invalidated_at<F: FactTypes, T: Table>(
     point: F::Point,
     loan: F::Loan,
 ) -> Result<Outcome, RunFault>
-    ensures { Putting T.Table.rows T.Table.bounds T.Table.grew t.old filling.old.facts (loan_invalidated_at (F.Point.Atom.number point) (F.Loan.Atom.number loan)) result t.new filling.new.facts }
+    ensures { Putting T.means t.old filling.old.facts (loan_invalidated_at (F.Point.Atom.number point) (F.Loan.Atom.number loan)) result t.new filling.new.facts }
 {
     put_fact::<F, T>(filling, t, &Fact::LoanInvalidatedAt(point, loan))
 }
@@ -102,7 +103,7 @@ pub fn put_var_used_at<F: FactTypes, T: Table>(
     var: F::Variable,
     point: F::Point,
 ) -> Result<Outcome, RunFault>
-    ensures { Putting T.Table.rows T.Table.bounds T.Table.grew t.old filling.old.facts (var_used_at (F.Variable.Atom.number var) (F.Point.Atom.number point)) result t.new filling.new.facts }
+    ensures { Putting T.means t.old filling.old.facts (var_used_at (F.Variable.Atom.number var) (F.Point.Atom.number point)) result t.new filling.new.facts }
 {
     put_fact::<F, T>(filling, t, &Fact::VarUsedAt(var, point))
 }
@@ -114,7 +115,7 @@ pub fn put_var_defined_at<F: FactTypes, T: Table>(
     var: F::Variable,
     point: F::Point,
 ) -> Result<Outcome, RunFault>
-    ensures { Putting T.Table.rows T.Table.bounds T.Table.grew t.old filling.old.facts (var_defined_at (F.Variable.Atom.number var) (F.Point.Atom.number point)) result t.new filling.new.facts }
+    ensures { Putting T.means t.old filling.old.facts (var_defined_at (F.Variable.Atom.number var) (F.Point.Atom.number point)) result t.new filling.new.facts }
 {
     put_fact::<F, T>(filling, t, &Fact::VarDefinedAt(var, point))
 }
@@ -126,7 +127,7 @@ pub fn put_var_dropped_at<F: FactTypes, T: Table>(
     var: F::Variable,
     point: F::Point,
 ) -> Result<Outcome, RunFault>
-    ensures { Putting T.Table.rows T.Table.bounds T.Table.grew t.old filling.old.facts (var_dropped_at (F.Variable.Atom.number var) (F.Point.Atom.number point)) result t.new filling.new.facts }
+    ensures { Putting T.means t.old filling.old.facts (var_dropped_at (F.Variable.Atom.number var) (F.Point.Atom.number point)) result t.new filling.new.facts }
 {
     put_fact::<F, T>(filling, t, &Fact::VarDroppedAt(var, point))
 }
@@ -138,7 +139,7 @@ pub fn put_use_of_var_derefs_origin<F: FactTypes, T: Table>(
     var: F::Variable,
     origin: F::Origin,
 ) -> Result<Outcome, RunFault>
-    ensures { Putting T.Table.rows T.Table.bounds T.Table.grew t.old filling.old.facts (use_of_var_derefs_origin (F.Variable.Atom.number var) (F.Origin.Atom.number origin)) result t.new filling.new.facts }
+    ensures { Putting T.means t.old filling.old.facts (use_of_var_derefs_origin (F.Variable.Atom.number var) (F.Origin.Atom.number origin)) result t.new filling.new.facts }
 {
     put_fact::<F, T>(filling, t, &Fact::UseOfVarDerefsOrigin(var, origin))
 }
@@ -150,7 +151,7 @@ pub fn put_drop_of_var_derefs_origin<F: FactTypes, T: Table>(
     var: F::Variable,
     origin: F::Origin,
 ) -> Result<Outcome, RunFault>
-    ensures { Putting T.Table.rows T.Table.bounds T.Table.grew t.old filling.old.facts (drop_of_var_derefs_origin (F.Variable.Atom.number var) (F.Origin.Atom.number origin)) result t.new filling.new.facts }
+    ensures { Putting T.means t.old filling.old.facts (drop_of_var_derefs_origin (F.Variable.Atom.number var) (F.Origin.Atom.number origin)) result t.new filling.new.facts }
 {
     put_fact::<F, T>(filling, t, &Fact::DropOfVarDerefsOrigin(var, origin))
 }
@@ -162,7 +163,7 @@ pub fn put_child_path<F: FactTypes, T: Table>(
     child: F::Path,
     parent: F::Path,
 ) -> Result<Outcome, RunFault>
-    ensures { Putting T.Table.rows T.Table.bounds T.Table.grew t.old filling.old.facts (child_path (F.Path.Atom.number child) (F.Path.Atom.number parent)) result t.new filling.new.facts }
+    ensures { Putting T.means t.old filling.old.facts (child_path (F.Path.Atom.number child) (F.Path.Atom.number parent)) result t.new filling.new.facts }
 {
     put_fact::<F, T>(filling, t, &Fact::ChildPath(child, parent))
 }
@@ -174,7 +175,7 @@ pub fn put_path_is_var<F: FactTypes, T: Table>(
     path: F::Path,
     var: F::Variable,
 ) -> Result<Outcome, RunFault>
-    ensures { Putting T.Table.rows T.Table.bounds T.Table.grew t.old filling.old.facts (path_is_var (F.Path.Atom.number path) (F.Variable.Atom.number var)) result t.new filling.new.facts }
+    ensures { Putting T.means t.old filling.old.facts (path_is_var (F.Path.Atom.number path) (F.Variable.Atom.number var)) result t.new filling.new.facts }
 {
     put_fact::<F, T>(filling, t, &Fact::PathIsVar(path, var))
 }
@@ -186,7 +187,7 @@ pub fn put_path_assigned_at_base<F: FactTypes, T: Table>(
     path: F::Path,
     point: F::Point,
 ) -> Result<Outcome, RunFault>
-    ensures { Putting T.Table.rows T.Table.bounds T.Table.grew t.old filling.old.facts (path_assigned_at_base (F.Path.Atom.number path) (F.Point.Atom.number point)) result t.new filling.new.facts }
+    ensures { Putting T.means t.old filling.old.facts (path_assigned_at_base (F.Path.Atom.number path) (F.Point.Atom.number point)) result t.new filling.new.facts }
 {
     put_fact::<F, T>(filling, t, &Fact::PathAssignedAtBase(path, point))
 }
@@ -198,7 +199,7 @@ pub fn put_path_moved_at_base<F: FactTypes, T: Table>(
     path: F::Path,
     point: F::Point,
 ) -> Result<Outcome, RunFault>
-    ensures { Putting T.Table.rows T.Table.bounds T.Table.grew t.old filling.old.facts (path_moved_at_base (F.Path.Atom.number path) (F.Point.Atom.number point)) result t.new filling.new.facts }
+    ensures { Putting T.means t.old filling.old.facts (path_moved_at_base (F.Path.Atom.number path) (F.Point.Atom.number point)) result t.new filling.new.facts }
 {
     put_fact::<F, T>(filling, t, &Fact::PathMovedAtBase(path, point))
 }
@@ -210,7 +211,7 @@ pub fn put_path_accessed_at_base<F: FactTypes, T: Table>(
     path: F::Path,
     point: F::Point,
 ) -> Result<Outcome, RunFault>
-    ensures { Putting T.Table.rows T.Table.bounds T.Table.grew t.old filling.old.facts (path_accessed_at_base (F.Path.Atom.number path) (F.Point.Atom.number point)) result t.new filling.new.facts }
+    ensures { Putting T.means t.old filling.old.facts (path_accessed_at_base (F.Path.Atom.number path) (F.Point.Atom.number point)) result t.new filling.new.facts }
 {
     put_fact::<F, T>(filling, t, &Fact::PathAccessedAtBase(path, point))
 }
@@ -222,7 +223,7 @@ pub fn put_known_placeholder_subset<F: FactTypes, T: Table>(
     origin1: F::Origin,
     origin2: F::Origin,
 ) -> Result<Outcome, RunFault>
-    ensures { Putting T.Table.rows T.Table.bounds T.Table.grew t.old filling.old.facts (known_placeholder_subset (F.Origin.Atom.number origin1) (F.Origin.Atom.number origin2)) result t.new filling.new.facts }
+    ensures { Putting T.means t.old filling.old.facts (known_placeholder_subset (F.Origin.Atom.number origin1) (F.Origin.Atom.number origin2)) result t.new filling.new.facts }
 {
     put_fact::<F, T>(filling, t, &Fact::KnownPlaceholderSubset(origin1, origin2))
 }
@@ -234,7 +235,7 @@ pub fn put_placeholder<F: FactTypes, T: Table>(
     origin: F::Origin,
     loan: F::Loan,
 ) -> Result<Outcome, RunFault>
-    ensures { Putting T.Table.rows T.Table.bounds T.Table.grew t.old filling.old.facts (placeholder (F.Origin.Atom.number origin) (F.Loan.Atom.number loan)) result t.new filling.new.facts }
+    ensures { Putting T.means t.old filling.old.facts (placeholder (F.Origin.Atom.number origin) (F.Loan.Atom.number loan)) result t.new filling.new.facts }
 {
     put_fact::<F, T>(filling, t, &Fact::Placeholder(origin, loan))
 }

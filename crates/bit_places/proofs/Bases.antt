@@ -1,5 +1,5 @@
 -- How many rows the relations below one have, with no sum.
-use Rattle.std.proofs.Common.{◌≡◌, ℕ, zero, suc, ◌+◌, ◌-◌, ◌*◌, ◌≤◌, true, false, cond, eqb, sym, ap, ◌∙◌, subst, ⊎_elim, arith}
+use Rattle.std.proofs.Common.{◌≡◌, ℕ, zero, suc, ◌+◌, ◌-◌, ◌*◌, ◌≤◌, true, false, cond, eqb, sym, ap, ◌∙◌, ⊎_elim, arith}
 use Rattle.std.proofs.lemmas.Nat.{mul-le}
 use Rattle.std.proofs.lemmas.Bool.Decides.{nat_tests}
 use Rattle.std.proofs.lemmas.Bool.{cases_Bool, cases_eq, eq-eqb, ne_eqb}
@@ -89,24 +89,19 @@ base_closed w (suc k) =
           omega (arith, i, s) ∙ sym (λ x. sums w (a x) (b x) (c x)))
     ]
 
--- what the code that computes it wants to know
-pub record Computed (w k a c : ℕ) : Type 0 where
-  pub fewer : c ≤ k - a
-  pub first : w * c ≤ 1280
-  pub second_sum : k - a - c + w * c ≤ 1320
-  pub second_product : w * (k - a - c + w * c) ≤ 42240
-  pub third_product : w * (a + w * (k - a - c + w * c)) ≤ 1353000
-  pub is : w * (a + w * (k - a - c + w * c)) ≡ base w k
-
-computed_at : (w k : ℕ) → w ≤ 32 → k ≤ 40 → Computed w k (ones k) (threes k)
-computed_at w k h l =
-    let f = few_kinds k in
-    let p : w * threes k ≤ 1280 = mul-le w (threes k) 32 40 h (omega arith) in
-    let s : k - ones k - threes k + w * threes k ≤ 1320 = omega arith in
-    let q : w * (k - ones k - threes k + w * threes k) ≤ 42240 = mul-le w (k - ones k - threes k + w * threes k) 32 1320 h s in
-    let t : w * (ones k + w * (k - ones k - threes k + w * threes k)) ≤ 1352960 = mul-le w (ones k + w * (k - ones k - threes k + w * threes k)) 32 42280 h (omega arith) in
-    record { fewer = omega arith; first = p; second_sum = s; second_product = q; third_product = omega arith; is = sym (base_closed w k) }
-
-pub computed : (w k a c : ℕ) → w ≤ 32 → k ≤ 40 → a ≡ past 1 k → c ≡ threes k → Computed w k a c
+-- as the code computes it
+pub base_is : (w k a c : ℕ) → a ≡ past 1 k → c ≡ threes k → w * (a + w * (k - a - c + w * c)) ≡ base w k
 unfolding ones
-computed w k a c h l e f = subst (λ v. Computed w k v c) (sym e) (subst (λ v. Computed w k (ones k) v) (sym f) (computed_at w k h l))
+base_is w k a c e f = (λ i. sums w (e i) (k - e i - f i) (f i)) ∙ sym (base_closed w k)
+
+pub base_fits : (w a b c : ℕ) → w ≤ 32 → a ≤ 1 → b ≤ 40 → c ≤ 5 → w * (a + w * (b + w * c)) ≤ 1310720
+base_fits w a b c h p q r =
+    let n : w * c ≤ 160 = mul-le w c 32 5 h r in
+    let m : w * (b + w * c) ≤ 6400 = mul-le w (b + w * c) 32 200 h (omega arith) in
+    let l : w * (a + w * (b + w * c)) ≤ 204832 = mul-le w (a + w * (b + w * c)) 32 6401 h (omega arith) in
+    omega arith
+
+-- the relation past those that it counts is counted once
+pub fewer : (k : ℕ) → past 1 k + threes k ≤ k
+unfolding ones
+fewer k = few_kinds k

@@ -28,6 +28,3 @@ bits_lawful ws w n live h e =
       narrow = omega arith;
       forty = length-map-range_with_len (λ k. cond live (size w k) 0) 0 40;
     }
-
-pub places_small : (w : ℕ) (live : Bool) (n : ℕ) → w ≤ 32 → n ≡ cond live (base w 40) 0 → n ≤ 1310720
-places_small w live n h e = omega (arith, total_small w live h)

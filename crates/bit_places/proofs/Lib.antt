@@ -11,3 +11,4 @@ pub mod Openings
 pub mod Bases
 pub mod Enumerates
 pub mod Raises
+pub mod Turns

@@ -138,10 +138,3 @@ module _ (w : ℕ) (ws : List ℕ) (r : Row) where
   first_jump (suc d) i n l h =
       ap (λ k. first_from (marked w ws i k) r) (add-suc n d) ∙ first_pass i (n + d) (omega arith) (omega arith)
       ∙ first_jump d (suc i) n (omega arith) (omega arith) ∙ ap (λ k. first_from (marked w ws k n) r) (let e : suc i + d ≡ i + suc d = omega arith in e)
-
-  -- clear bits passed over, many at a time
-  pub first_clears : (d i n : ℕ) → ((j : ℕ) → i ≤ j → j < i + d → bit ws j ≡ false) → first_from (marked w ws i (n + d)) r ≡ first_from (marked w ws (i + d) n) r
-  first_clears zero i n h = ap (λ k. first_from (marked w ws i k) r) (add-zero n) ∙ ap (λ k. first_from (marked w ws k n) r) (sym (add-zero i))
-  first_clears (suc d) i n h =
-      ap (λ k. first_from (marked w ws i k) r) (add-suc n d) ∙ first_clear i (n + d) (h i (omega arith) (omega arith))
-      ∙ first_clears d (suc i) n (λ j l m. h j (omega arith) (omega arith)) ∙ ap (λ k. first_from (marked w ws k n) r) (let e : suc i + d ≡ i + suc d = omega arith in e)

@@ -4,7 +4,7 @@ use native.Mathlib.Nat.{div-eq_of_lt}
 use Rattle.std.proofs.lemmas.Nat.{pow_pos}
 use Rattle.std.proofs.lemmas.List.{get_or_append_left, get_or-replicate, length-replicate}
 use Rattle.std.proofs.lemmas.List.FromFn.{fill_by_all}
-use Rattle.std.proofs.lemmas.Bool.{and_parts, ltb-true, leb-true, le-leb, lt-leb}
+use Rattle.std.proofs.lemmas.Bool.{and_parts, ltb-true, leb-true, le-leb, lt-leb, lt-ltb}
 use Rattle.rows.proofs.Opens.{opening_ok}
 use Rattle.bit_places.specs.Places.{size, base}
 use Rattle.bit_places.specs.Bit.{bit}
@@ -31,6 +31,12 @@ opened len w e =
       narrow = leb-true w 32 q.1;
       room = omega (arith, total w, leb-true (needed w) (64 * len) p.1);
     }
+
+pub open_live : (len w n : ℕ) → Fitting len w → n ≡ base w 40 → ltb 0 n ≡ true
+open_live len w n f e = let t = total w in let p = f.wide in lt-ltb 0 n (omega arith)
+
+pub open_sized : (len w n : ℕ) → Fitting len w → n ≡ base w 40 → n ≡ cond (ltb 0 n) (base w 40) 0
+open_sized len w n f e = e ∙ ap (λ b. cond b (base w 40) 0) (sym (open_live len w n f e))
 
 -- the words needed are there, or are not
 pub words_enough : (len w : ℕ) → words_for w ≤ len → fits_words len w ≡ true
@@ -62,9 +68,9 @@ pub each_open : (w : ℕ) (xs : List ℕ) → length xs ≡ 40 → ((k : ℕ) �
 unfolding each_limit
 each_open w xs l h = fill_by_all (size w) xs 40 0 l h
 
-pub limits_are : (w n : ℕ) (live : Bool) (each : List ℕ) → n ≡ cond live (base w 40) 0 → each ≡ each_limit live w → record { width = w; total = n; each = each } ≡ bit_limits live w
+pub limits_are : (v w n : ℕ) (live : Bool) (each : List ℕ) → v ≡ w → n ≡ cond live (base w 40) 0 → each ≡ each_limit live w → record { width = v; total = n; each = each } ≡ bit_limits live w
 unfolding bit_limits
-limits_are w n live each e f = λ i. record { width = w; total = e i; each = f i }
+limits_are v w n live each d e f = λ i. record { width = d i; total = e i; each = f i }
 
-pub limits_same : (live was : Bool) (w v : ℕ) → live ≡ was → w ≡ v → bit_limits live w ≡ bit_limits was v
-limits_same live was w v p q = λ i. bit_limits (p i) (q i)
+pub limits_same : (m n w v : ℕ) → m ≡ n → w ≡ v → bit_limits (ltb 0 m) w ≡ bit_limits (ltb 0 n) v
+limits_same m n w v p q = λ i. bit_limits (ltb 0 (p i)) (q i)

@@ -1,45 +1,16 @@
-use Rattle.std.proofs.Common.{◌≡◌, ℕ, zero, suc, ◌+◌, ◌-◌, ◌*◌, ◌/◌, ◌%◌, ◌^◌, ◌<◌, true, eqb, List, length, get_or, sym, refl, ap, ◌∙◌, ⊎_elim, mul-div_cancel, arith}
-use native.Mathlib.Nat.{div-eq_of_lt, div_self, mul-mod_left}
-use lib.Bits.{bit_or, or_zero_r}
-use Rattle.std.proofs.lemmas.Nat.{or_shr, or_mod, pow-add, pow_pos, pow_below, mod_below}
+-- One bit set in words.
+use Rattle.std.proofs.Common.{◌≡◌, ℕ, ◌*◌, ◌/◌, ◌%◌, ◌^◌, ◌<◌, true, eqb, List, length, get_or, sym, ap, ◌∙◌, ⊎_elim, arith}
+use lib.Bits.{bit_or}
+use Rattle.std.proofs.lemmas.Nat.Bits.{bit_at_or, bit_at-pow_same, bit_at-pow_other, bit_at-lt}
 use Rattle.std.proofs.lemmas.List.{get_or-set_same, get_or-set_other}
-use Rattle.std.proofs.lemmas.Bool.{cases_order, cases_eq}
+use Rattle.std.proofs.lemmas.Bool.{cases_eq}
 use Rattle.bit_places.specs.Bit.{bit, raised}
 
--- one bit of a power of two
-pow_bit_above : (k j : ℕ) → k < j → 2 ^ k / 2 ^ j % 2 ≡ 0
-pow_bit_above k j h = ap (λ n. n % 2) (div-eq_of_lt (pow_below k j h))
+raised_same : (w k : ℕ) → bit_or w (2 ^ k) / 2 ^ k % 2 ≡ 1
+raised_same w k = omega (arith, bit_at_or w (2 ^ k) k, bit_at-pow_same k, bit_at-lt w k)
 
-pow_bit_below : (k j : ℕ) → j < k → 2 ^ k / 2 ^ j % 2 ≡ 0
-pow_bit_below k j h =
-    let d = k - j - 1 in
-    let e : k ≡ (d + 1) + j = omega arith in
-    ap (λ n. 2 ^ n / 2 ^ j % 2) e
-    ∙ ap (λ n. n / 2 ^ j % 2) (pow-add 2 (d + 1) j)
-    ∙ ap (λ n. n % 2) (mul-div_cancel (2 ^ (d + 1)) (pow_pos j))
-    ∙ ap (λ n. n % 2) (pow-add 2 d 1)
-    ∙ mul-mod_left (2 ^ d) 2
-
-pow_bit_other : (k j : ℕ) → (j ≡ k → ⊥) → 2 ^ k / 2 ^ j % 2 ≡ 0
-pow_bit_other k j ne =
-    ⊎_elim (λ e. absurd (ne e)) (⊎_elim (λ l. pow_bit_below k j l) (λ l. pow_bit_above k j l)) (cases_order j k)
-
-or_bit : (a b j : ℕ) → bit_or a b / 2 ^ j % 2 ≡ bit_or (a / 2 ^ j % 2) (b / 2 ^ j % 2)
-or_bit a b j = ap (λ n. n % 2) (or_shr a b j) ∙ or_mod (a / 2 ^ j) (b / 2 ^ j) 1
-
-or_one : (x : ℕ) → x < 2 → bit_or x 1 ≡ 1
-or_one zero h = refl
-or_one (suc zero) h = refl
-or_one (suc (suc x)) h = absurd (omega arith)
-
-pub raised_same : (w k : ℕ) → bit_or w (2 ^ k) / 2 ^ k % 2 ≡ 1
-raised_same w k =
-    or_bit w (2 ^ k) k
-    ∙ ap (λ n. bit_or (w / 2 ^ k % 2) (n % 2)) (div_self (pow_pos k))
-    ∙ or_one (w / 2 ^ k % 2) (mod_below (w / 2 ^ k) 2 (omega arith))
-
-pub raised_other : (w k j : ℕ) → (j ≡ k → ⊥) → bit_or w (2 ^ k) / 2 ^ j % 2 ≡ w / 2 ^ j % 2
-raised_other w k j ne = or_bit w (2 ^ k) j ∙ ap (λ n. bit_or (w / 2 ^ j % 2) n) (pow_bit_other k j ne) ∙ or_zero_r (w / 2 ^ j % 2)
+raised_other : (w k j : ℕ) → (j ≡ k → ⊥) → bit_or w (2 ^ k) / 2 ^ j % 2 ≡ w / 2 ^ j % 2
+raised_other w k j ne = omega (arith, bit_at_or w (2 ^ k) j, bit_at-pow_other k j ne)
 
 pub bit_raised_same : (ws : List ℕ) (i : ℕ) → i < 64 * length ws → bit (raised ws i) i ≡ true
 bit_raised_same ws i h =

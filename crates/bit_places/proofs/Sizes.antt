@@ -2,8 +2,8 @@
 use Rattle.std.proofs.Common.{◌≡◌, ℕ, zero, suc, ◌+◌, ◌-◌, ◌*◌, ◌/◌, ◌%◌, ◌<◌, ◌≤◌, sym, refl, ap, subst, ⊎_elim, mul-le-mul, add-one, arith}
 use Rattle.std.proofs.lemmas.Bool.Decides.{nat_tests}
 use Rattle.std.proofs.lemmas.Bool.{cases_order}
-use Rattle.bit_places.specs.Places.{second, third, size, base, inner, relation_at, row_in, row_of}
-use Rattle.bit_places.proofs.Placed.{Fit, fit_row, lo, hi, st, t_pos, base_up, relation_low, relation_high, relation_most}
+use Rattle.bit_places.specs.Places.{second, third, size, base, relation_at, row_in, row_of}
+use Rattle.bit_places.proofs.Placed.{Fit, fit_row, hi, st, t_pos, base_up, relation_low, relation_high, relation_most}
 
 module _ (w : ℕ) (h : w ≤ 32) (k : ℕ) where
   pub second_most : second w k ≤ 32
@@ -47,16 +47,10 @@ pub row_is : (w i k : ℕ) → k < 40 → i < base w 40 → base w k ≤ i → i
 unfolding row_of
 row_is w i k l h a b = ap (λ n. row_in w n (i - base w n)) (relation_is w i k l h a b)
 
-pub inner_most : (w k a b c : ℕ) → inner w k a b c ≤ size w k
-inner_most w k a b c = omega arith
-
 -- what the code that makes the row at a place wants to know
 pub record Made (w i k s t b : ℕ) : Type 0 where
-  pub known : k < 40
-  pub after : b ≤ i
   pub pair_pos : 0 < s * t
   pub third_pos : 0 < t
-  pub pair : s * t ≤ 1024
   pub a_small : (i - b) / (s * t) < 32
   pub b_small : (i - b) % (s * t) / t < 32
   pub c_small : (i - b) % (s * t) % t < 32
@@ -77,11 +71,8 @@ module _ (w i : ℕ) (n : w ≤ 32) (h : i < base w 40) where
       let p = st w K j known_at (hi w i h) in
       let q = t_pos w K j known_at (hi w i h) in
       record {
-        known = known_at;
-        after = lo w i h;
         pair_pos = p;
         third_pos = q;
-        pair = pair_most w n K;
         a_small = omega (arith, f.a);
         b_small = omega (arith, f.b, second_most w n K);
         c_small = omega (arith, f.c, third_most w n K);

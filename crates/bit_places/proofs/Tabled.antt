@@ -1,7 +1,7 @@
 -- What a bit table's functions answer.
-use Rattle.std.proofs.Common.{◌≡◌, ℕ, suc, ◌+◌, ◌-◌, ◌*◌, ◌<◌, ◌≤◌, Bool, true, false, cond, leb, List, [], length, Some, None, Ok, Err, sym, refl, ap, ◌∙◌, ⊎_elim, zero-add, add-one, arith}
+use Rattle.std.proofs.Common.{◌≡◌, ℕ, suc, ◌+◌, ◌-◌, ◌*◌, ◌<◌, ◌≤◌, Bool, true, false, cond, ltb, leb, List, [], length, Some, None, Ok, Err, sym, refl, ap, ◌∙◌, ⊎_elim, zero-add, arith}
 use Rattle.std.proofs.lemmas.List.FromFn.{get_or-map-range_with_len}
-use Rattle.std.proofs.lemmas.Bool.{cases_lt, or_from, lt-leb}
+use Rattle.std.proofs.lemmas.Bool.{cases_Bool, cases_lt, or_from, lt-ltb, lt-leb}
 use Rattle.rows.specs.declared.row.Row.{Row}
 use Rattle.rows.specs.Rows.{admissible, has, insert, first_from}
 use Rattle.rows.specs.Tables.{full, add_answer}
@@ -15,7 +15,7 @@ use Rattle.bit_places.specs.Marked.{marked}
 use Rattle.bit_places.specs.Opened.{bit_limits, each_limit}
 use Rattle.bit_places.proofs.Placed.{Fit, fit, place_below, fit_row, place_row}
 use Rattle.rows.proofs.Sets.{length_insert}
-use Rattle.bit_places.proofs.Marks.{asc_marked, sound_marked, has_unfit, has_marked, insert_marked, marked_set, marked_clear, first_jump, first_set, first_clear}
+use Rattle.bit_places.proofs.Marks.{asc_marked, sound_marked, has_unfit, has_marked, insert_marked, first_jump, first_set}
 use Rattle.bit_places.proofs.Crowds.{room_all, room_relation}
 
 -- none past the last place
@@ -40,24 +40,12 @@ first_start w ws r n h =
     ∙ (let z : 0 ≡ n - n = omega arith in ap (λ k. first_from (marked w ws n k) r) z) ∙ first_none w ws r n n (omega arith) ∙ sym (first_none w ws r (place w r) n (omega arith)))
     (cases_lt (place w r) (n + 1))
 
-pub first_end : (w : ℕ) (ws : List ℕ) (r : Row) (i n : ℕ) → n ≤ i → first_from (marked w ws i (n - i)) r ≡ None
-first_end w ws r i n h = first_none w ws r i n h
-
 module _ (w : ℕ) (ws : List ℕ) (i n : ℕ) (l : i < n) where
   step : n - i ≡ suc (n - (i + 1))
   step = omega arith
 
   pub first_found : (r : Row) → n ≤ base w 40 → place w r ≤ i → bit ws i ≡ true → first_from (marked w ws i (n - i)) r ≡ Some (row_of w i)
   first_found r h p b = ap (λ k. first_from (marked w ws i k) r) step ∙ first_set w ws r i (n - (i + 1)) (omega arith) p b
-
-  pub first_more : (r : Row) → bit ws i ≡ false → first_from (marked w ws i (n - i)) r ≡ first_from (marked w ws (i + 1) (n - (i + 1))) r
-  first_more r b = ap (λ k. first_from (marked w ws i k) r) step ∙ first_clear w ws r i (n - (i + 1)) b ∙ ap (λ k. first_from (marked w ws k (n - (i + 1))) r) (sym (add-one i))
-
-  pub count_set : bit ws i ≡ true → length (marked w ws i (n - i)) ≡ length (marked w ws (i + 1) (n - (i + 1))) + 1
-  count_set b = ap (λ k. length (marked w ws i k)) step ∙ ap length (marked_set w ws i (n - (i + 1)) b) ∙ (let e = ap (λ k. length (marked w ws k (n - (i + 1)))) (add-one i) in omega arith)
-
-  pub count_clear : bit ws i ≡ false → length (marked w ws i (n - i)) ≡ length (marked w ws (i + 1) (n - (i + 1)))
-  count_clear b = ap (λ k. length (marked w ws i k)) step ∙ ap length (marked_clear w ws i (n - (i + 1)) b) ∙ ap (λ k. length (marked w ws k (n - (i + 1)))) (sym (add-one i))
 
 pub nothing_held : (w : ℕ) (ws : List ℕ) (r : Row) → has (marked w ws 0 0) r ≡ false
 unfolding has marked
@@ -94,9 +82,6 @@ module _ (w : ℕ) (ws : List ℕ) (n : ℕ) (live : Bool) (r : Row) (e : n ≡ 
 
   shut_places : live ≡ false → n ≡ 0
   shut_places t = e ∙ ap (λ b. cond b (base w 40) 0) t
-
-  pub place_in_words : live ≡ true → n ≤ 64 * length ws → admissible w r ≡ true → place w r < 64 * length ws
-  place_in_words t h a = let l = place_below w r (fit w r a) in let p = open_places t in omega arith
 
   pub answer_unfit : admissible w r ≡ false → Err NotAdmissible ≡ add_answer (bit_limits live w) (marked w ws 0 n) r
   unfolding bit_limits
@@ -136,13 +121,13 @@ module _ (w : ℕ) (ws : List ℕ) (n : ℕ) (live : Bool) (r : Row) (e : n ≡ 
   pub has_open : live ≡ true → admissible w r ≡ true → has (marked w ws 0 n) r ≡ bit ws (place w r)
   has_open t a = ap (λ k. has (marked w ws 0 k) r) (open_places t) ∙ has_bit w ws r a
 
-  pub full_open : live ≡ true → admissible w r ≡ true → has (marked w ws 0 n) r ≡ false → full (bit_limits live w) (marked w ws 0 n) r ≡ false
-  full_open t a z =
-      (λ i. full (bit_limits (t i) w) (marked w ws 0 (open_places t i)) r)
-      ∙ never_full w ws r a (ap (λ k. has (marked w ws 0 k) r) (sym (open_places t)) ∙ z)
+-- a table with a place for a row is open, and one with none for an admissible row is not
+pub live_open : (p n : ℕ) → p < n → ltb 0 n ≡ true
+live_open p n l = lt-ltb 0 n (omega arith)
 
-  pub place_in_places : live ≡ true → admissible w r ≡ true → place w r < n
-  place_in_places t a = let l = place_below w r (fit w r a) in let p = open_places t in omega arith
+pub live_shut : (w n : ℕ) (r : Row) → n ≡ cond (ltb 0 n) (base w 40) 0 → admissible w r ≡ true → n ≤ place w r → ltb 0 n ≡ false
+live_shut w n r e a l =
+    ⊎_elim (λ t. absurd (omega (arith, place_below w r (fit w r a), e ∙ ap (λ b. cond b (base w 40) 0) t))) (λ p. p) (cases_Bool (ltb 0 n))
 
 -- one row more for a bit raised
 pub count_raised : (w : ℕ) (ws : List ℕ) (n i : ℕ) → n ≤ base w 40 → n ≤ 64 * length ws → i < n → bit ws i ≡ false

@@ -2,17 +2,17 @@
 // first.
 #![tactic(auto)]
 
-ghost use Rattle.std.specs.Prelude.{◌≡◌, ◌*◌, ◌<◌, ◌≤◌, false, [], length, if◌then◌else◌};
+ghost use Rattle.std.specs.Prelude.{◌≡◌, ◌*◌, ◌<◌, ◌≤◌, max, false, [], length, nat_lt, if◌then◌else◌, unwrap_or, IfSome};
 ghost use Rattle.bit_places.specs.Places.{base, place};
 ghost use Rattle.bit_places.specs.Bit.{bit, raised};
 ghost use Rattle.bit_places.specs.Enumerated.{Enumerated};
 ghost use Rattle.bit_places.specs.Marked.{marked};
 ghost use Rattle.bit_places.specs.Sought.{Low, Sought};
-ghost use Rattle.bit_places.specs.Opened.{bit_limits, each_limit, check_answer, words_for, made_live, made_width, made_words};
+ghost use Rattle.bit_places.specs.Opened.{bit_limits, check_answer, made_live, made_width, made_words};
 ghost use Rattle.bit_places.proofs.Openings.{limits_same};
 ghost use Rattle.bit_places.proofs.Lawfuls.{bits_lawful};
 
-use crate::places::{base, place, row_at, size};
+use crate::places::Layout;
 use rows::answer::{Limits, OpenFault, Outcome, TableFault};
 use rows::relation::RELATIONS;
 use rows::row::Row;
@@ -21,20 +21,17 @@ use table::Table;
 pub mod fill;
 mod places;
 
-// No bit table is wider than this.
-const WIDEST: u32 = 32;
-
+// A table whose words did not open has no place.
 #[derive(Drop)]
 pub struct Bits<'a> {
     words: &'a mut [u64],
-    width: u32,
+    layout: Layout,
     places: usize,
-    live: bool,
     held: u32,
-    ghost narrow: { width ≤ 32 },
-    ghost sized: { places ≡ (if live then base width 40 else 0) },
+    ghost sized: { places ≡ (if nat_lt 0 places then base layout.width 40 else 0) },
+    ghost small: { places ≤ 1310720 },
     ghost room: { places ≤ 64 * length words.now },
-    ghost counted: { length (marked width words.now 0 places) ≡ held },
+    ghost counted: { length (marked layout.width words.now 0 places) ≡ held },
 }
 
 impl<'a> Bits<'a> {
@@ -43,12 +40,7 @@ impl<'a> Bits<'a> {
         ensures answer { result ≡ check_answer (length words.now) width }
         ensures layout { Enumerated width }
     {
-        if width < 1 || width > WIDEST {
-            return Err(OpenFault::Width);
-        }
-        if words.len() < words_for(width as usize) {
-            return Err(OpenFault::Words);
-        }
+        Layout::over(words.len(), width)?;
         Ok(())
     }
 
@@ -57,28 +49,23 @@ impl<'a> Bits<'a> {
     pub fn make(words: &'a mut [u64], width: u32) -> Bits<'a>
         ensures words { result.words.now ≡ made_words words.old width }
         ensures place { result.words.ghost_name ≡ words.entry.ghost_name }
-        ensures live { result.live ≡ made_live (length words.old) width }
-        ensures width { result.width ≡ made_width (length words.old) width }
-        ensures rows { marked result.width result.words.now 0 result.places ≡ [] }
+        ensures live { nat_lt 0 result.places ≡ made_live (length words.old) width }
+        ensures width { result.layout.width ≡ made_width (length words.old) width }
+        ensures rows { marked result.layout.width result.words.now 0 result.places ≡ [] }
     {
-        let Ok(()) = Bits::check(words, width) else {
+        let Ok(layout) = Layout::over(words.len(), width) else {
             return Bits {
                 words,
-                width: 1,
+                layout: Layout::NARROWEST,
                 places: 0,
-                live: false,
                 held: 0,
             };
         };
-        let needed = words_for(width as usize);
-        for i in 0..needed {
-            words[i] = 0;
-        }
+        words[..layout.words()].fill(0);
         Bits {
             words,
-            width,
-            places: base(width as usize, RELATIONS),
-            live: true,
+            layout,
+            places: layout.base(RELATIONS),
             held: 0,
         }
     }
@@ -95,24 +82,25 @@ impl<'a> Bits<'a> {
         requires { i < 64 * length self.now.words.now }
         ensures { result ≡ bit self.now.words.now i }
     {
-        let w = self.words[i / 64];
-        (w >> (i % 64)) % 2 == 1
+        (self.words[i / 64] >> (i % 64)) & 1 == 1
     }
 
-    // The first bit that is set, from i on, or one past the last place.
-    fn seek(&self, i: usize) -> usize
-        ensures { Sought self.now.words.now i self.now.places result }
+    // The first place from i on whose bit is set.
+    fn seek(&self, i: usize) -> Option<usize>
+        ensures within { IfSome result (λ j. j < self.now.places) }
+        ensures sought { Sought self.now.words.now i self.now.places (unwrap_or result (max i self.now.places)) }
     {
+        // An iterator over words would need a case for the first, in which the search begins at a bit.
         let mut m = i;
         while m < self.places {
             let at = m / 64;
-            let low = low_bit(self.words[at], m % 64);
-            if low < 64 {
-                return at * 64 + low;
+            if let Some(low) = low_bit(self.words[at], m % 64) {
+                let j = at * 64 + low;
+                return (j < self.places).then_some(j);
             }
             m = (at + 1) * 64;
         }
-        m
+        None
     }
 
     // Sets a bit that is clear.
@@ -120,37 +108,26 @@ impl<'a> Bits<'a> {
         requires within { i < self.old.places }
         requires fresh { bit self.old.words.now i ≡ false }
         ensures words { self.new.words.now ≡ raised self.old.words.now i }
-        ensures width { self.new.width ≡ self.old.width }
+        ensures layout { self.new.layout.width ≡ self.old.layout.width }
         ensures places { self.new.places ≡ self.old.places }
-        ensures live { self.new.live ≡ self.old.live }
         ensures place { self.new.words.ghost_name ≡ self.old.words.ghost_name }
     {
-        let at = i / 64;
-        let k = i % 64;
-        self.words[at] = self.words[at] | (1 << k);
+        self.words[i / 64] |= 1 << (i % 64);
         self.held += 1;
     }
 }
 
 impl<'a> Table for Bits<'a> {
-    ghost rows = { λ l. marked l.width l.words.now 0 l.places };
-
-    ghost bounds = { λ l. bit_limits l.live l.width };
-
-    ghost grew = { λ l r t. (t.words.now ≡ raised l.words.now (place l.width r)) × (t.width ≡ l.width) × (t.places ≡ l.places) × (t.live ≡ l.live) × (t.words.ghost_name ≡ l.words.ghost_name) };
-
-    ghost steady = { λ l r t g. limits_same t.live l.live t.width l.width g.3 g.1 };
-
-    ghost lawful = { λ l. bits_lawful l.words.now l.width l.places l.live l.narrow l.sized };
+    ghost means = { record { rows = λ l. marked l.layout.width l.words.now 0 l.places; bounds = λ l. bit_limits (nat_lt 0 l.places) l.layout.width; grew = λ l r t. (t.words.now ≡ raised l.words.now (place l.layout.width r)) × (t.layout.width ≡ l.layout.width) × (t.places ≡ l.places) × (t.words.ghost_name ≡ l.words.ghost_name) } };
 
     fn add(&mut self, r: Row) -> Result<Outcome, TableFault> {
-        if !r.admissible(self.width) {
+        if !self.layout.admits(&r) {
             return Err(TableFault::NotAdmissible);
         }
-        if !self.live {
+        let i = self.layout.place(&r);
+        if i >= self.places {
             return Err(TableFault::Full);
         }
-        let i = place(self.width as usize, &r);
         if self.read(i) {
             return Ok(Outcome::Held);
         }
@@ -159,24 +136,16 @@ impl<'a> Table for Bits<'a> {
     }
 
     fn holds(&self, r: Row) -> bool {
-        if !self.live {
+        if !self.layout.admits(&r) {
             return false;
         }
-        if !r.admissible(self.width) {
-            return false;
-        }
-        let i = place(self.width as usize, &r);
-        self.read(i)
+        let i = self.layout.place(&r);
+        i < self.places && self.read(i)
     }
 
     fn next(&self, r: Row) -> Option<Row> {
-        let w = self.width as usize;
-        let i = self.seek(place(w, &r));
-        if i < self.places {
-            Some(row_at(w, i))
-        } else {
-            None
-        }
+        let i = self.seek(self.layout.place(&r))?;
+        Some(self.layout.row_at(i))
     }
 
     fn count(&self) -> u32 {
@@ -185,45 +154,31 @@ impl<'a> Table for Bits<'a> {
 
     fn limits(&self) -> Limits {
         Limits {
-            width: self.width,
+            width: self.layout.width(),
             total: self.places as u32,
-            each: each_for(self.width as usize, self.live),
+            each: if self.places > 0 {
+                self.layout.each()
+            } else {
+                [0; 40]
+            },
         }
     }
+
+    ghost steady = { λ l r t g. limits_same t.places l.places t.layout.width l.layout.width g.2 g.1 };
+
+    ghost lawful = { λ l. bits_lawful l.words.now l.layout.width l.places (nat_lt 0 l.places) l.layout.narrow l.sized };
 }
 
-// The maximum of each relation: all its rows, or none where the table did not open.
-fn each_for(width: usize, live: bool) -> [u32; 40]
-    requires { width ≤ 32 }
-    ensures { result ≡ each_limit live width }
-{
-    let mut each = [0; 40];
-    if !live {
-        return each;
-    }
-    for k in 0..40 {
-        each[k] = size(width, k as u32) as u32;
-    }
-    each
-}
-
-// How many words have a bit for each admissible row.
-fn words_for(width: usize) -> usize
-    requires { width ≤ 32 }
-    ensures { result ≡ words_for width }
-{
-    (base(width, RELATIONS) + 63) / 64
-}
-
-// The lowest bit of a word that is set, from bit k on, or 64.
-fn low_bit(word: u64, k: usize) -> usize
+// The lowest bit of a word that is set, from bit k on.
+fn low_bit(word: u64, k: usize) -> Option<usize>
     requires { k < 64 }
-    ensures { Low word k result }
+    ensures within { IfSome result (λ j. j < 64) }
+    ensures low { Low word k (unwrap_or result 64) }
 {
     let rest = word >> k;
     if rest == 0 {
-        64
+        None
     } else {
-        k + rest.trailing_zeros() as usize
+        Some(k + rest.trailing_zeros() as usize)
     }
 }

@@ -4,8 +4,7 @@
 #![tactic(auto)]
 
 use counting::Counted;
-use facts::record::Record;
-use facts::whole::{WholeFault, read_all};
+use facts::whole::read_all;
 use list::List;
 use output::complete::complete;
 use output::progress::Progress;
@@ -36,7 +35,7 @@ struct Counts {
 }
 
 fn put<T: Table>(t: &mut T, relation: u32, a: u32, b: u32, c: u32) {
-    let _ = t.add(Row { relation, a, b, c });
+    let _ = t.add(Row::new(relation, a, b, c));
 }
 
 // One borrow of a body: a variable is assigned, borrowed, passed on and used some points later, while another borrow is live.
@@ -76,10 +75,9 @@ fn body<T: Table>(t: &mut T, borrows: u32, shape: Shape) {
 
 // Completes a table of facts, and tells what it was asked.
 fn completed<T: Table>(t: &mut Counted<T>) -> Counts {
-    let facts = (*t).count();
+    let facts = t.count();
     let derived = match complete(t, u32::MAX) {
-        Ok(Progress::Finished(n)) => n,
-        Ok(Progress::Spent(n)) => n,
+        Ok(Progress::Finished(n) | Progress::Spent(n)) => n,
         Err(stop) => stop.added,
     };
     Counts {
@@ -90,30 +88,14 @@ fn completed<T: Table>(t: &mut Counted<T>) -> Counts {
     }
 }
 
-fn measure<T: Table + Drop>(below: T, borrows: u32, shape: Shape) -> Counts {
-    let mut t = Counted::new(below);
-    body(&mut t, borrows, shape);
-    completed(&mut t)
-}
-
-fn measure_records<T: Table + Drop>(below: T, records: &[Record]) -> Counts {
-    let mut t = Counted::new(below);
-    for record in records {
-        let _ = t.add(record.row);
-    }
-    completed(&mut t)
-}
-
-fn on_list(heap: Global, borrows: u32, shape: Shape) -> Result<Counts, AllocError> {
+// The counts of a completion on a list of its own, which is filled first.
+fn on_list<F: FnOnce(&mut Counted<List<'_>>)>(heap: Global, fill: F) -> Result<Counts, AllocError>
+    requires { F.IsAlwaysCallable fill }
+{
     let mut words = vec![in heap; 0u32; WORDS]?;
-    let list = List::make(words.as_mut_slice(), WIDTH);
-    Ok(measure(list, borrows, shape))
-}
-
-fn records_on_list(heap: Global, records: &[Record]) -> Result<Counts, AllocError> {
-    let mut words = vec![in heap; 0u32; WORDS]?;
-    let list = List::make(words.as_mut_slice(), WIDTH);
-    Ok(measure_records(list, records))
+    let mut t = Counted::new(List::make(words.as_mut_slice(), WIDTH));
+    fill(&mut t);
+    Ok(completed(&mut t))
 }
 
 // Tenths of calls for each row.
@@ -143,29 +125,25 @@ fn report_file(rt: &HostRuntime) -> anyhow::Result<()> {
     rt.stdin().read_to_end(&mut bytes)?;
     match read_all(rt.alloc(), bytes.as_slice()) {
         Ok(records) => {
-            let counts = records_on_list(rt.alloc(), records.as_slice())?;
+            let counts = on_list(rt.alloc(), |t| {
+                for record in &records {
+                    let _ = t.add(record.row);
+                }
+            })?;
             report(rt, "facts", counts)?;
         }
-        Err(WholeFault::Unread(fault)) => {
-            let number = fault.number();
-            let offset = fault.offset();
-            println!(rt; "refused {number} at {offset}")?;
-        }
-        Err(WholeFault::NoMemory) => println!(rt; "no memory")?,
+        Err(fault) => println!(rt; "{fault}")?,
     }
     Ok(())
 }
 
 fn report_size(rt: &HostRuntime, borrows: u32) -> anyhow::Result<()> {
     let heap = rt.alloc();
-    let straight = format!(in heap; "straight {borrows}")?;
-    report(
-        rt,
-        straight.as_str(),
-        on_list(heap, borrows, Shape::Straight)?,
-    )?;
-    let looped = format!(in heap; "loop {borrows}")?;
-    report(rt, looped.as_str(), on_list(heap, borrows, Shape::Loop)?)?;
+    for (name, shape) in [("straight", Shape::Straight), ("loop", Shape::Loop)] {
+        let title = format!(in heap; "{name} {borrows}")?;
+        let counts = on_list(heap, |t| body(t, borrows, shape))?;
+        report(rt, title.as_str(), counts)?;
+    }
     Ok(())
 }
 

@@ -2,7 +2,7 @@
 #![tactic(auto)]
 
 ghost use Rattle.std.specs.Prelude.{◌≡◌};
-ghost use Rattle.rows.specs.declared.row.Row.{Row};
+ghost use Rattle.rows.specs.Tables.{standing};
 
 use rows::answer::{Limits, Outcome, TableFault};
 use rows::row::Row;
@@ -39,15 +39,7 @@ impl<T: Table> Counted<T> {
 }
 
 impl<T: Table> Table for Counted<T> {
-    ghost rows = { λ c. T.Table.rows c.below };
-
-    ghost bounds = { λ c. T.Table.bounds c.below };
-
-    ghost grew = { λ c r d. T.Table.grew c.below r d.below × (d.nexts ≡ c.nexts) × (d.holds ≡ c.holds) };
-
-    ghost steady = { λ c r d g. T.Table.steady c.below r d.below g.0 };
-
-    ghost lawful = { λ c. T.Table.lawful c.below };
+    ghost means = { standing (λ c. c.below) T.means (λ c. T.means.bounds c.below) (λ c r d. T.means.grew c.below r d.below × (d.nexts ≡ c.nexts) × (d.holds ≡ c.holds)) };
 
     fn add(&mut self, r: Row) -> Result<Outcome, TableFault> {
         self.below.add(r)
@@ -74,4 +66,8 @@ impl<T: Table> Table for Counted<T> {
     fn limits(&self) -> Limits {
         self.below.limits()
     }
+
+    ghost steady = { λ c r d g. T.Table.steady c.below r d.below g.0 };
+
+    ghost lawful = { λ c. T.Table.lawful c.below };
 }

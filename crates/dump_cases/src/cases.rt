@@ -1,7 +1,10 @@
 // The bytes of a case's file, from its lines.
-use std::alloc::{AllocError, Global};
+use std::alloc::AllocError;
+use std::error::Error;
+use std::fmt;
+use std::num::ParseIntError;
 
-#[derive(Clone, Copy)]
+#[derive(Clone, Copy, PartialEq, Eq, Debug)]
 pub enum CaseFault {
     // A word is neither a mark, a code of 16 bits nor a byte in hexadecimal.
     Word,
@@ -14,35 +17,39 @@ impl From<AllocError> for CaseFault {
     }
 }
 
+impl From<ParseIntError> for CaseFault {
+    fn from(_e: ParseIntError) -> CaseFault {
+        CaseFault::Word
+    }
+}
+
+impl fmt::Display for CaseFault {
+    fn fmt<W: fmt::Write>(&self, f: &mut fmt::Formatter<W>) -> fmt::Result {
+        match self {
+            CaseFault::Word => write!(f, "not a fact"),
+            CaseFault::NoMemory => write!(f, "no memory"),
+        }
+    }
+}
+
+impl Error for CaseFault {}
+
 // Adds the bytes that a line stands for: those of a fact's record, or those that are written out after a `!`.
 pub fn add_line(file: &mut Vec<u8>, line: &str) -> Result<(), CaseFault> {
-    let mut is_first = true;
-    let mut is_bytes = false;
-    for word in line.split_whitespace() {
-        if is_first && word == "!" {
-            is_bytes = true;
-        } else if is_first {
-            file.extend_from_slice(word.as_bytes())?;
-        } else if is_bytes {
-            file.extend_from_slice(&[byte_of(word)?])?;
-        } else {
-            file.extend_from_slice(&code_of(word)?.to_le_bytes())?;
+    let mut words = line.split_whitespace();
+    match words.next() {
+        None => {}
+        Some("!") => {
+            for word in words {
+                file.extend_from_slice(&[u8::from_str_radix(word, 16)?])?;
+            }
         }
-        is_first = false;
+        Some(mark) => {
+            file.extend_from_slice(mark.as_bytes())?;
+            for word in words {
+                file.extend_from_slice(&word.parse::<u16>()?.to_le_bytes())?;
+            }
+        }
     }
     Ok(())
-}
-
-fn code_of(word: &str) -> Result<u16, CaseFault> {
-    match word.parse::<u16>() {
-        Ok(code) => Ok(code),
-        Err(_) => Err(CaseFault::Word),
-    }
-}
-
-fn byte_of(word: &str) -> Result<u8, CaseFault> {
-    match u8::from_str_radix(word, 16) {
-        Ok(byte) => Ok(byte),
-        Err(_) => Err(CaseFault::Word),
-    }
 }

@@ -5,34 +5,33 @@
 
 mod cases;
 
-use cases::{CaseFault, add_line};
+use cases::add_line;
 use listing::dump::dump;
 use std::io;
 use std::io::{BufRead, BufReader};
 
 fn main(rt: HostRuntime) -> io::Result<()> {
     let heap = rt.alloc();
-    let mut file: Vec<u8> = Vec::new(heap);
-    let mut is_open = false;
+    let mut case = None;
     for line in BufReader::new(heap, rt.stdin())?.lines(heap) {
         let line = line?;
         if line.as_str().starts_with('#') {
-            if is_open {
-                rt.print(dump(heap, file.as_slice())?.as_str())?;
-            }
-            is_open = true;
-            file.clear();
+            print_case(&rt, case.replace(Vec::new(heap)))?;
             rt.println(line.as_str())?;
-        } else if let Err(fault) = add_line(&mut file, line.as_str()) {
-            return report(&rt, fault);
+        } else if let Err(fault) = add_line(
+            case.get_or_insert_with(|| Vec::new(heap)),
+            line.as_str(),
+        ) {
+            return println!(rt; "{fault}");
         }
     }
-    rt.print(dump(heap, file.as_slice())?.as_str())
+    print_case(&rt, case)
 }
 
-fn report(rt: &HostRuntime, fault: CaseFault) -> io::Result<()> {
-    match fault {
-        CaseFault::Word => rt.println("not a fact"),
-        CaseFault::NoMemory => rt.println("no memory"),
+// The listing of a case that has begun.
+fn print_case(rt: &HostRuntime, case: Option<Vec<u8>>) -> io::Result<()> {
+    if let Some(file) = case {
+        rt.print(dump(rt.alloc(), file.as_slice())?.as_str())?;
     }
+    Ok(())
 }

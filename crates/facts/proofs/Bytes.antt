@@ -1,13 +1,11 @@
 -- Bytes taken apart: two at the front, the codes of a row, a whole record.
-use Rattle.std.proofs.Common.{◌≡◌, ℕ, suc, ◌+◌, ◌-◌, ◌*◌, ◌/◌, ◌%◌, ◌<◌, ◌≤◌, true, List, [], ◌∷◌, ◌++◌, length, get_or, take, drop, sym, refl, ap, arith, take_all}
+use Rattle.std.proofs.Common.{◌≡◌, ℕ, suc, ◌+◌, ◌-◌, ◌*◌, ◌/◌, ◌%◌, ◌<◌, ◌≤◌, true, List, [], ◌∷◌, ◌++◌, length, get_or, take, drop, sym, refl, ap, ◌∙◌, subst, arith, take_all}
+use Rattle.std.specs.Int.{w16, from_le_bytes}
 use Rattle.std.proofs.lemmas.Bool.Decides.{nat_tests}
+use Rattle.rows.specs.declared.row.Row.{Row}
 use Rattle.rows.specs.Rows.{admissible, places}
 use Rattle.rows.specs.Relations.{row1, row2, row3}
 use Rattle.facts.specs.Format.{two_bytes, bytes_of, codes_of}
-
-pub none_left : (bs : List ℕ) → length bs < 1 → bs ≡ []
-none_left [] h = refl
-none_left (x ∷ bs) h = absurd (omega arith)
 
 pub front_two : (bs : List ℕ) → 2 ≤ length bs → bs ≡ get_or bs 0 0 ∷ get_or bs 1 0 ∷ take (length bs - 2) (drop 2 bs)
 front_two [] h = absurd (omega arith)
@@ -22,35 +20,46 @@ mark_two [] h = absurd (omega arith)
 mark_two (x ∷ []) h = absurd (omega arith)
 mark_two (x ∷ y ∷ bs) h = refl
 
--- a code from its two bytes
-pub code_bytes : (low high : ℕ) → low < 256 → two_bytes (low + 256 * high) ≡ low ∷ high ∷ []
-code_bytes low high h =
-    let l : (low + 256 * high) % 256 ≡ low = omega arith in
-    let u : (low + 256 * high) / 256 ≡ high = omega arith in
+-- the code of the two bytes at the front
+pub code_bytes : (bs code rest : List ℕ) (n : ℕ) → 2 ≤ length bs → ((i : ℕ) → get_or bs i 0 < 256) → code ≡ take 2 bs → rest ≡ drop 2 bs → n ≡ from_le_bytes w16 code → bs ≡ two_bytes n ++ rest
+code_bytes [] code rest n two small c r e = absurd (omega arith)
+code_bytes (low ∷ []) code rest n two small c r e = absurd (omega arith)
+code_bytes (low ∷ high ∷ bs) code rest n two small c r e =
+    let is : n ≡ low + high * 256 = e ∙ ap (from_le_bytes w16) c in
+    let l : n % 256 ≡ low = omega (arith, small 0) in
+    let h : n / 256 ≡ high = omega (arith, small 0) in
     cc
 
-module _ (k a b c : ℕ) (fact : k < 18) (la : a < 65536) where
-  pub one_admissible : places k ≡ 1 → admissible 65536 (row1 k a) ≡ true
+-- the bytes begin with the codes of a row of the relation
+abbrev pub Begins : ℕ → List ℕ → List ℕ → Row → Type 0
+Begins k bytes rest r =
+    (r.relation ≡ k) × (admissible 65536 r ≡ true) × (bytes ≡ bytes_of (codes_of r) ++ rest)
+
+-- they begin with a code
+abbrev pub Coded : List ℕ → List ℕ → ℕ → Type 0
+Coded bytes rest n = (n < 65536) × (bytes ≡ two_bytes n ++ rest)
+
+module _ (k : ℕ) (bytes xs : List ℕ) (a : ℕ) (r : Row) (fact : k < 18) (d : Coded bytes xs a) where
+  pub one_code : places k ≡ 1 → r ≡ row1 k a → Begins k bytes xs r
   unfolding admissible
-  one_admissible p = grind (arith, nat_tests)
+  one_code p is =
+      let n = ap (λ n. bytes_of (take n (a ∷ 0 ∷ 0 ∷ []))) p in
+      subst (Begins k bytes xs) (sym is) (refl, grind (arith, nat_tests), d.1 ∙ ap (λ t. t ++ xs) (sym n))
 
-  module _ (lb : b < 65536) where
-    pub two_admissible : places k ≡ 2 → admissible 65536 (row2 k a b) ≡ true
+  module _ (ys : List ℕ) (b : ℕ) (e : Coded xs ys b) where
+    pub two_codes : places k ≡ 2 → r ≡ row2 k a b → Begins k bytes ys r
     unfolding admissible
-    two_admissible p = grind (arith, nat_tests)
+    two_codes p is =
+        let n = ap (λ n. bytes_of (take n (a ∷ b ∷ 0 ∷ []))) p in
+        subst (Begins k bytes ys) (sym is)
+        (refl, grind (arith, nat_tests), d.1 ∙ ap (λ t. two_bytes a ++ t) e.1 ∙ ap (λ t. t ++ ys) (sym n))
 
-    pub three_admissible : c < 65536 → places k ≡ 3 → admissible 65536 (row3 k a b c) ≡ true
+    pub three_codes : (zs : List ℕ) (c : ℕ) → Coded ys zs c → places k ≡ 3 → r ≡ row3 k a b c → Begins k bytes zs r
     unfolding admissible
-    three_admissible lc p = grind (arith, nat_tests)
-
-pub one_code : (k a b c : ℕ) → places k ≡ 1 → bytes_of (codes_of (row3 k a b c)) ≡ two_bytes a
-one_code k a b c p = ap (λ n. bytes_of (take n (a ∷ b ∷ c ∷ []))) p
-
-pub two_codes : (k a b c : ℕ) → places k ≡ 2 → bytes_of (codes_of (row3 k a b c)) ≡ two_bytes a ++ two_bytes b
-two_codes k a b c p = ap (λ n. bytes_of (take n (a ∷ b ∷ c ∷ []))) p
-
-pub three_codes : (k a b c : ℕ) → places k ≡ 3 → bytes_of (codes_of (row3 k a b c)) ≡ two_bytes a ++ two_bytes b ++ two_bytes c
-three_codes k a b c p = ap (λ n. bytes_of (take n (a ∷ b ∷ c ∷ []))) p
+    three_codes zs c f p is =
+        let n = ap (λ n. bytes_of (take n (a ∷ b ∷ c ∷ []))) p in
+        subst (Begins k bytes zs) (sym is)
+        (refl, grind (arith, nat_tests), d.1 ∙ ap (λ t. two_bytes a ++ t) (e.1 ∙ ap (λ t. two_bytes b ++ t) f.1) ∙ ap (λ t. t ++ zs) (sym n))
 
 -- a relation has one place, two or three
 pub three_left : (k : ℕ) → (places k ≡ 1 → ⊥) → (places k ≡ 2 → ⊥) → places k ≡ 3

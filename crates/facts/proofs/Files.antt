@@ -1,9 +1,9 @@
 -- A file read record by record: what has been read, and that it can be read in one way only.
-use Rattle.std.proofs.Common.{◌≡◌, ℕ, zero, suc, ◌+◌, ◌*◌, ◌/◌, ◌%◌, ◌<◌, ◌≤◌, Bool, true, cond, ◌&&◌, eqb, ◌⊎◌, List, [], ◌∷◌, ◌++◌, length, get_or, take, Some, None, Ok, Err, Option, Result, sym, refl, ap, ◌∙◌, subst, ⊎_elim, append_assoc, append-nil, le_of_suc-le-suc, not-suc-le-zero, add_assoc, eq-or-lt_of_le, arith, length-append, take_all, eqb-true}
-use Rattle.std.proofs.lemmas.Bool.{and_parts}
+use Rattle.std.proofs.Common.{◌≡◌, ℕ, zero, suc, ◌+◌, ◌*◌, ◌/◌, ◌%◌, ◌<◌, ◌≤◌, Bool, true, cond, ◌&&◌, eqb, ◌⊎◌, List, [], ◌∷◌, ◌++◌, length, get_or, take, drop, ◌==◌, Some, None, Ok, Err, Option, Result, sym, refl, ap, ◌∙◌, subst, ⊎_elim, append_assoc, append-nil, add_assoc, arith, length-append, take_all}
 use Rattle.std.specs.List.{AllByRecursion}
 use Rattle.std.proofs.ByRecursion.{All-push}
-use Rattle.std.proofs.lemmas.Bool.Decides.{nat_tests}
+use Rattle.std.proofs.lemmas.Bool.Decides.{nat_tests, Decides-eqb, Decides-below_and}
+use Rattle.std.proofs.Math.Seq.{take-append_seam, drop-append_seam}
 use lib.Seq.{take-append-le}
 use Rattle.rows.specs.Rows.{admissible, places}
 use Rattle.rows.specs.declared.row.Row.{Row}
@@ -42,11 +42,9 @@ abbrev all_below : (ℕ → Bool) → ℕ → Bool
 all_below test zero = true
 all_below test (suc n) = test n && all_below test n
 
-at_below : (test : ℕ → Bool) (n : ℕ) → all_below test n ≡ true → (k : ℕ) → k < n → test k ≡ true
-at_below test zero t k h = absurd (not-suc-le-zero h)
-at_below test (suc n) t k h =
-    let both = and_parts (test n) (all_below test n) t in
-    ⊎_elim (λ e. ap test e ∙ both.0) (λ l. at_below test n both.1 k l) (eq-or-lt_of_le (le_of_suc-le-suc h))
+same_below : (f g : ℕ → ℕ) (n : ℕ) → all_below (λ k. f k == g k) n ≡ true → (k : ℕ) → k < n → f k ≡ g k
+same_below f g n =
+    (Decides-below_and (λ k. f k == g k) (λ k. f k ≡ g k) (all_below (λ k. f k == g k)) (λ k. Decides-eqb (f k) (g k)) refl (λ _. refl) n).0
 
 abbrev letters : List ℕ → ℕ
 letters m = 256 * get_or m 0 0 + get_or m 1 0
@@ -57,10 +55,10 @@ place n [] = 0
 place n (m ∷ ms) = cond (eqb (letters m) n) 0 (suc (place n ms))
 
 mark_placed : (k : ℕ) → k < 18 → place (letters (mark k)) marks ≡ k
-mark_placed k h = eqb-true _ _ (at_below (λ j. eqb (place (letters (mark j)) marks) j) 18 refl k h)
+mark_placed = same_below (λ k. place (letters (mark k)) marks) (λ k. k) 18 refl
 
 pub mark_long : (k : ℕ) → k < 18 → length (mark k) ≡ 2
-mark_long k h = eqb-true _ _ (at_below (λ j. eqb (length (mark j)) 2) 18 refl k h)
+mark_long = same_below (λ k. length (mark k)) (λ _. 2) 18 refl
 
 pub mark_same : (k j : ℕ) → k < 18 → j < 18 → mark k ≡ mark j → k ≡ j
 mark_same k j h i e = sym (mark_placed k h) ∙ ap (λ m. place (letters m) marks) e ∙ mark_placed j i
@@ -68,14 +66,10 @@ mark_same k j h i e = sym (mark_placed k h) ∙ ap (λ m. place (letters m) mark
 -- the codes of a record: how long they are, and that they say the row
 
 split_same : (xs ys us vs : List ℕ) → length xs ≡ length ys → xs ++ us ≡ ys ++ vs → (xs ≡ ys) × (us ≡ vs)
-split_same [] [] us vs l e = (refl, e)
-split_same [] (y ∷ ys) us vs l e = absurd (omega arith)
-split_same (x ∷ xs) [] us vs l e = absurd (omega arith)
-split_same (x ∷ xs) (y ∷ ys) us vs l e =
-    let h : x ≡ y = cc in
-    let t : xs ++ us ≡ ys ++ vs = cc in
-    let p = split_same xs ys us vs (omega arith) t in
-    (let q = p.0 in cc, p.1)
+split_same xs ys us vs l e = (
+  sym (take-append_seam xs us) ∙ ap (take (length xs)) e ∙ ap (λ n. take n (ys ++ vs)) l ∙ take-append_seam ys vs,
+  sym (drop-append_seam xs us) ∙ ap (drop (length xs)) e ∙ ap (λ n. drop n (ys ++ vs)) l ∙ drop-append_seam ys vs,
+)
 
 bytes_long : (cs : List ℕ) → length (bytes_of cs) ≡ 2 * length cs
 bytes_long [] = refl
@@ -243,13 +237,13 @@ same_record at at' at'' bytes bytes' bytes'' (Some x) (Some y) a b =
     let e : x ≡ y = λ i. record { offset = o i; row = r i } in
     (ap (λ z. Ok (Some z)) e, a.3 ∙ ap (λ s. at + length (written s)) r ∙ sym b.3, p.1)
 
-pub answered_once : (at at' at'' : ℕ) (bytes bytes' bytes'' : List ℕ) (r s : Result (Option Record) ReadFault) → Answered at bytes r at' bytes' → Answered at bytes s at'' bytes'' → Same r at' bytes' s at'' bytes''
-answered_once at at' at'' bytes bytes' bytes'' (Ok o) (Ok p) a b = same_record at at' at'' bytes bytes' bytes'' o p a b
-answered_once at at' at'' bytes bytes' bytes'' (Ok o) (Err f) a b =
+pub answered_once : (at at' : ℕ) (bytes bytes' : List ℕ) (r : Result (Option Record) ReadFault) → Answered at bytes r at' bytes' → (s : Result (Option Record) ReadFault) (at'' : ℕ) (bytes'' : List ℕ) → Answered at bytes s at'' bytes'' → Same r at' bytes' s at'' bytes''
+answered_once at at' bytes bytes' (Ok o) a (Ok p) at'' bytes'' b = same_record at at' at'' bytes bytes' bytes'' o p a b
+answered_once at at' bytes bytes' (Ok o) a (Err f) at'' bytes'' b =
     absurd (not_both at at' at'' bytes bytes' bytes'' o f a b)
-answered_once at at' at'' bytes bytes' bytes'' (Err f) (Ok p) a b =
+answered_once at at' bytes bytes' (Err f) a (Ok p) at'' bytes'' b =
     absurd (not_both at at'' at' bytes bytes'' bytes' p f b a)
-answered_once at at' at'' bytes bytes' bytes'' (Err f) (Err g) a b =
+answered_once at at' bytes bytes' (Err f) a (Err g) at'' bytes'' b =
     (ap Err (same_fault bytes f g (a.0 ∙ sym b.0) a.1 b.1), a.2 ∙ sym b.2, a.3 ∙ sym b.3)
 
 -- what one answer of the reader makes of a file that was read so far

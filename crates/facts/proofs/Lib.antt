@@ -1,2 +1,2 @@
-mod Bytes
-mod Files
+pub mod Bytes
+pub mod Files

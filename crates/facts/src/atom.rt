@@ -1,8 +1,11 @@
 // Atoms: what facts are about. An analysis sees each of them as a number.
-ghost use Rattle.std.specs.Prelude.{◌≡◌, ℕ, ◌<◌, Some, Option};
+ghost use Rattle.std.specs.Prelude.{◌≡◌, ℕ, ◌<◌, ◌++◌, Some, Option, codes, decimal};
 ghost use Rattle.std.specs.Option.{option_map};
 
-// A kind of atoms: each has one number from 0 to 65,534.
+use std::error::Error;
+use std::fmt;
+
+// A kind of atoms: each has one number from 0 to 65,534. Two functions and their laws, which `From` and `TryFrom` have not.
 pub trait Atom: Copy {
     ghost number: { Self → ℕ };
 
@@ -23,6 +26,23 @@ pub trait Atom: Copy {
 
     ghost forth: { (n : ℕ) (x : Self) → atom n ≡ Some x → number x ≡ n };
 }
+
+// No atom of the kind has the number.
+#[derive(Clone, Copy, PartialEq, Eq, Debug)]
+pub struct NoAtom {
+    pub number: u32,
+}
+
+impl fmt::Display for NoAtom {
+    ghost output = { λ x. Some (codes "no atom has the number " ++ decimal x.number) };
+
+    fn fmt<W: fmt::Write>(&self, f: &mut fmt::Formatter<W>) -> fmt::Result {
+        let number = self.number;
+        write!(f, "no atom has the number {number}")
+    }
+}
+
+impl Error for NoAtom {}
 
 // The five kinds of atoms that facts name.
 pub trait FactTypes {
@@ -48,8 +68,5 @@ pub fn atom_again<K: Atom>(x: K) -> Option<K>
 pub fn code_again<K: Atom>(code: u32) -> Option<u32>
     ensures { result ≡ option_map (λ _. code) (K.Atom.atom code) }
 {
-    match K::from_code(code) {
-        Some(x) => Some(x.code()),
-        None => None,
-    }
+    K::from_code(code).map(|x| x.code())
 }

@@ -2,7 +2,7 @@
 #![tactic(auto)]
 
 pub mod atom;
-mod mark;
+pub mod mark;
 pub mod number;
 pub mod point;
 pub mod reader;

@@ -10,7 +10,8 @@ use crate::record::{ReadFault, Record};
 use rows::relation;
 use rows::row::Row;
 
-// The bytes that are left, and how many stood before them.
+// The bytes that are left, and how many stood before them. It is no `Iterator`: it gives a refusal again and again, so a loop
+// over one would not end.
 #[derive(Drop)]
 pub struct Reader<'a> {
     left: &'a [u8],
@@ -61,38 +62,20 @@ fn row_of(relation: u32, bytes: &[u8]) -> Option<(Row, &[u8])>
     let places = relation::places(relation);
     let (a, rest) = code(bytes)?;
     if places == 1 {
-        return Some((
-            Row {
-                relation,
-                a,
-                b: 0,
-                c: 0,
-            },
-            rest,
-        ));
+        return Some((Row::new(relation, a, 0, 0), rest));
     }
     let (b, rest) = code(rest)?;
     if places == 2 {
-        return Some((
-            Row {
-                relation,
-                a,
-                b,
-                c: 0,
-            },
-            rest,
-        ));
+        return Some((Row::new(relation, a, b, 0), rest));
     }
     let (c, rest) = code(rest)?;
-    Some((Row { relation, a, b, c }, rest))
+    Some((Row::new(relation, a, b, c), rest))
 }
 
 // The code that the bytes begin with, low byte first, and the bytes after it.
 fn code(bytes: &[u8]) -> Option<(u32, &[u8])>
     ensures { MatchOption result (length bytes.now < 2) (λ x. (x.0 < 65536) × (bytes.now ≡ two_bytes x.0 ++ x.1.now)) }
 {
-    match bytes {
-        [low, high, rest @ ..] => Some((u32::from(*low) + 256 * u32::from(*high), rest)),
-        _ => None,
-    }
+    let (code, rest) = bytes.split_first_chunk()?;
+    Some((u32::from(u16::from_le_bytes(*code)), rest))
 }

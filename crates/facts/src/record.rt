@@ -1,11 +1,14 @@
 // What a reader of facts answers.
-ghost use Rattle.std.specs.Prelude.{◌≡◌};
+ghost use Rattle.std.specs.Prelude.{◌≡◌, Some};
 ghost use Rattle.facts.specs.Format.{fault_number, fault_offset};
+ghost use Rattle.facts.specs.Text.{read_words};
 
 use rows::row::Row;
+use std::error::Error;
+use std::fmt;
 
 // A fact of the file, and where its mark stands.
-#[derive(Clone, Copy)]
+#[derive(Clone, Copy, PartialEq, Eq, Debug)]
 pub struct Record {
     pub offset: usize,
     pub row: Row,
@@ -44,3 +47,15 @@ impl ReadFault {
         }
     }
 }
+
+impl fmt::Display for ReadFault {
+    ghost output = { λ x. Some (read_words x) };
+
+    fn fmt<W: fmt::Write>(&self, f: &mut fmt::Formatter<W>) -> fmt::Result {
+        let number = self.number();
+        let offset = self.offset();
+        write!(f, "refused {number} at {offset}")
+    }
+}
+
+impl Error for ReadFault {}

@@ -4,7 +4,7 @@ use Rattle.std.proofs.lemmas.Bool.{cases_Bool}
 use Rattle.rows.specs.declared.row.Row.{Row}
 use Rattle.rows.specs.declared.answer.Limits.{Limits}
 use Rattle.rows.specs.Rows.{has, same, insert, before, Asc, rest, start}
-use Rattle.rows.specs.Tables.{add_answer, Lawful}
+use Rattle.rows.specs.Tables.{Meaning, add_answer, Lawful}
 use Rattle.rows.specs.Adding.{taken, joined, went_in}
 use Rattle.rows.proofs.Sets.{length_insert, has_insert, has_head, has_tail, all_has}
 use Rattle.rows.proofs.Order.{same_is, before_start, before_relation, not_before_relation}
@@ -16,8 +16,8 @@ use Rattle.datalog.proofs.Engine.{Sub, complete_same, complete_keeps}
 use Rattle.output.specs.Program.{program}
 use Rattle.output.specs.Completion.{Completed, Adds}
 use Rattle.output.specs.Progressing.{Completing}
-use Rattle.output.specs.declared.progress.Progress.{Progress}
-use Rattle.output.specs.declared.progress.Progress.TheVariants.{Finished, Spent}
+use Rattle.datalog.specs.declared.progress.Progress.{Progress}
+use Rattle.datalog.specs.declared.progress.Progress.TheVariants.{Finished, Spent}
 use Rattle.output.proofs.Completing.{adds_completed}
 use Rattle.analysis.specs.declared.fault.RunFault.{RunFault}
 use Rattle.analysis.specs.declared.fault.RunFault.TheVariants.{NotEmpty, NotFact, RowsMissing, Refused, Stopped}
@@ -32,26 +32,26 @@ module _ (x : Row) (xs : List Row) (r : Row) where
   unfolding has
   has_cases h = ⊎_elim (λ e. inl (same_is x r e)) (λ e. inr (sym (ap (λ b. b || has xs r) e) ∙ h)) (cases_Bool (same x r))
 
-module _ {S : Type 0} (rows : S → List Row) (bounds : S → Limits) (grew : S → Row → S → Type 0) where
-  adds_length : {n : ℕ} {s t : S} → Adds rows grew n s t → length (rows t) ≡ length (rows s) + n
-  adds_length {s = s} Adds.none = sym (add-zero (length (rows s)))
+module _ {S : Type 0} (M : Meaning S) where
+  adds_length : {n : ℕ} {s t : S} → Adds M.rows M.grew n s t → length (M.rows t) ≡ length (M.rows s) + n
+  adds_length {s = s} Adds.none = sym (add-zero (length (M.rows s)))
   adds_length (Adds.more {t = t} r a miss full is grown) =
-      omega (arith, ap length is, length_insert r (rows t) (not_T (has (rows t) r) miss.1), adds_length a)
+      omega (arith, ap length is, length_insert r (M.rows t) (not_T (has (M.rows t) r) miss.1), adds_length a)
 
   -- a budget that is spent leaves less room
-  pub less_room : (budget : ℕ) (s t : S) (p : Progress) → 0 < budget → Lawful (bounds t) (rows t) → bounds t ≡ bounds s
-      → Completing rows bounds grew budget s (Ok p) t → ((n : ℕ) → p ≡ Finished n → ⊥)
-      → (bounds t).total - length (rows t) < (bounds s).total - length (rows s)
+  pub less_room : (budget : ℕ) (s t : S) (p : Progress) → 0 < budget → Lawful (M.bounds t) (M.rows t) → M.bounds t ≡ M.bounds s
+      → Completing M budget s (Ok p) t → ((n : ℕ) → p ≡ Finished n → ⊥)
+      → (M.bounds t).total - length (M.rows t) < (M.bounds s).total - length (M.rows s)
   less_room budget s t (Finished n) pos law kept h not = absurd (not n refl)
   less_room budget s t (Spent n) pos law kept h not =
       let k = adds_length h.1 in
       omega (arith, h.0, law.few, ap (λ m. m.total) kept, k)
 
   -- the largest budget is more than a table holds
-  pub not_spent : (s t : S) (p : Progress) (n : ℕ) → Lawful (bounds t) (rows t) → bounds t ≡ bounds s → (bounds s).total < most
-      → Completing rows bounds grew most s (Ok p) t → p ≡ Spent n → ⊥
+  pub not_spent : (s t : S) (p : Progress) (n : ℕ) → Lawful (M.bounds t) (M.rows t) → M.bounds t ≡ M.bounds s → (M.bounds s).total < most
+      → Completing M most s (Ok p) t → p ≡ Spent n → ⊥
   not_spent s t p n law kept few h is =
-      let d : Completing rows bounds grew most s (Ok (Spent n)) t = subst (λ q. Completing rows bounds grew most s (Ok q) t) is h in
+      let d : Completing M most s (Ok (Spent n)) t = subst (λ q. Completing M most s (Ok q) t) is h in
       let k = adds_length d.1 in
       omega (arith, d.0, law.few, ap (λ m. m.total) kept, k)
 
@@ -121,20 +121,20 @@ joined_held xs (y ∷ ys) r h =
     (λ i. inr (has_tail y ys r i)) (joined_held (insert y xs) ys r h)
 
 -- On a table that was empty, a listing gives the derived rows of the file's facts.
-module _ {S : Type 0} (rows : S → List Row) (bounds : S → Limits) (grew : S → Row → S → Type 0) where
-  module _ (s t : S) (facts : List Row) (empty : rows s ≡ []) (took : Took rows bounds grew s facts t) where
-    only_facts : Sub (Among (rows t)) (Among facts)
+module _ {S : Type 0} (M : Meaning S) where
+  module _ (s t : S) (facts : List Row) (empty : M.rows s ≡ []) (took : Took M s facts t) where
+    only_facts : Sub (Among (M.rows t)) (Among facts)
     only_facts r i =
         T_from (has facts r)
-        (⊎_elim (λ j. absurd (has_none r (subst (λ ys. has ys r ≡ true) empty j))) (taken_held (bounds s) (rows s) facts r)
-        (joined_held (rows s) (taken (bounds s) (rows s) facts) r
-        (subst (λ ys. has ys r ≡ true) took.filled.held (T_is (has (rows t) r) i))))
+        (⊎_elim (λ j. absurd (has_none r (subst (λ ys. has ys r ≡ true) empty j))) (taken_held (M.bounds s) (M.rows s) facts r)
+        (joined_held (M.rows s) (taken (M.bounds s) (M.rows s) facts) r
+        (subst (λ ys. has ys r ≡ true) took.filled.held (T_is (has (M.rows t) r) i))))
 
-    all_facts : Sub (Among facts) (Among (rows t))
-    all_facts r i = T_from (has (rows t) r) (all_has (λ q. has (rows t) q ≡ true) facts r took.held (T_is (has facts r) i))
+    all_facts : Sub (Among facts) (Among (M.rows t))
+    all_facts r i = T_from (has (M.rows t) r) (all_has (λ q. has (M.rows t) q ≡ true) facts r took.held (T_is (has facts r) i))
 
-  pub lists : (bytes : List ℕ) (s u : S) (found : List Row) → Lawful (bounds u) (rows u)
-      → Listing rows bounds grew bytes s (Ok found) u → Lists bytes found
+  pub lists : (bytes : List ℕ) (s u : S) (found : List Row) → Lawful (M.bounds u) (M.rows u)
+      → Listing M bytes s (Ok found) u → Lists bytes found
   lists bytes s u found law h =
       let t = h.0 in
       let l = h.1.1.1.0 in
@@ -143,26 +143,26 @@ module _ {S : Type 0} (rows : S → List Row) (bounds : S → Limits) (grew : S 
       let empty = h.1.1.1.3 in
       let facts = l.0 in
       let took = l.1.0 in
-      let w = adds_completed rows grew d.1 in
+      let w = adds_completed M.rows M.grew d.1 in
       let to = only_facts s t facts empty took in
       let from = all_facts s t facts empty took in
-      let held : (r : Row) → Completed (rows u) r → has (rows u) r ≡ true =
-      λ r m. ⊎_elim (λ e. e) (λ e. absurd (d.2 r (m, T_not (has (rows u) r) e))) (cases_Bool (has (rows u) r)) in (
+      let held : (r : Row) → Completed (M.rows u) r → has (M.rows u) r ≡ true =
+      λ r m. ⊎_elim (λ e. e) (λ e. absurd (d.2 r (m, T_not (has (M.rows u) r) e))) (cases_Bool (has (M.rows u) r)) in (
         facts,
         (
           took.are,
           l.1.1,
           record {
-            ascending = subst Asc (sym is) (asc_rest (start 18) (rows u) law.ascending);
+            ascending = subst Asc (sym is) (asc_rest (start 18) (M.rows u) law.ascending);
             all = λ r. (
               λ i.
                   let j = subst (λ ys. has ys r ≡ true) is i in (
-                    rest_high 18 (rows u) r law.ascending j,
-                    complete_same program (Among (rows t)) (Among facts) to from r (w.0 r (complete_keeps program (Among (rows u)) r (T_from (has (rows u) r) (rest_held 18 (rows u) r j)))),
+                    rest_high 18 (M.rows u) r law.ascending j,
+                    complete_same program (Among (M.rows t)) (Among facts) to from r (w.0 r (complete_keeps program (Among (M.rows u)) r (T_from (has (M.rows u) r) (rest_held 18 (M.rows u) r j)))),
                   ),
               λ i.
                   subst (λ ys. has ys r ≡ true) (sym is)
-                  (rest_has 18 (rows u) r (held r (w.1 r (complete_same program (Among facts) (Among (rows t)) from to r i.1))) i.0),
+                  (rest_has 18 (M.rows u) r (held r (w.1 r (complete_same program (Among facts) (Among (M.rows t)) from to r i.1))) i.0),
             );
           },
         ),
@@ -174,11 +174,13 @@ pub began : (xs : List Row) (f : Filling) → Ok f ≡ begun xs → xs ≡ []
 began [] f e = refl
 began (x ∷ xs) f e = absurd (let z : ◌≡◌ {A = ℕ} 0 1 = cc in omega arith)
 
-module _ {S : Type 0} (rows : S → List Row) (bounds : S → Limits) (grew : S → Row → S → Type 0) (bytes : List ℕ) where
+module _ {S : Type 0} (M : Meaning S) (bytes : List ℕ) where
   -- an advance is refused by the table alone
-  pub not_derived : (s t u : S) (n : ℕ) (f : RunFault) → Loading rows bounds grew bytes s (Ok n) t → Stopping rows bounds grew most t f u → Refusing rows bounds grew bytes s f u
+  pub not_derived : (s t u : S) (n : ℕ) (f : RunFault) → Loading M bytes s (Ok n) t → Stopping M most t f u → Refusing M bytes s f u
   not_derived s t u n NotEmpty l h = absurd h
   not_derived s t u n NotFact l h = absurd h
   not_derived s t u n RowsMissing l h = absurd h
   not_derived s t u n (Refused refusal) l h = absurd h
   not_derived s t u n (Stopped stop) l h = (t, (n, (l, h)))
+
+pub ruleset listings = (began, not_derived)

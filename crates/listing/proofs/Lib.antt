@@ -1,3 +1,4 @@
 pub mod Loads
 pub mod Derives
 pub mod InOrder
+pub mod Texts

@@ -3,3 +3,4 @@ pub mod Loading
 pub mod Listing
 pub mod Text
 pub mod Dumps
+pub mod Words

@@ -2,11 +2,10 @@
 use Rattle.std.specs.Prelude.{◌≡◌, ℕ, true, List, ◌++◌, length, Some, None, Ok, Err, Option, Result}
 use Rattle.std.specs.List.{AllByRecursion}
 use Rattle.rows.specs.declared.row.Row.{Row}
-use Rattle.rows.specs.declared.answer.Limits.{Limits}
 use Rattle.rows.specs.declared.answer.Outcome.{Outcome}
 use Rattle.rows.specs.declared.answer.TableFault.{TableFault}
 use Rattle.rows.specs.Rows.{has}
-use Rattle.rows.specs.Tables.{add_answer, rows_after}
+use Rattle.rows.specs.Tables.{Meaning, add_answer, rows_after}
 use Rattle.rows.specs.Changes.{Changed}
 use Rattle.rows.specs.Adding.{Filled, taken}
 use Rattle.facts.specs.Format as format
@@ -25,21 +24,21 @@ RefusedBy answer RowsMissing = ⊥
 RefusedBy answer (Refused refusal) = answer ≡ Err refusal.fault
 RefusedBy answer (Stopped stop) = ⊥
 
-module _ {S : Type 0} (rows : S → List Row) (bounds : S → Limits) (grew : S → Row → S → Type 0) where
+module _ {S : Type 0} (M : Meaning S) where
   -- What one record makes of a reader that stands at an offset before some bytes, and of a table s, which becomes t.
   abbrev pub Step : ℕ → List ℕ → S → Result (Option Loaded) ListingFault → ℕ → List ℕ → S → Type 0
   Step at bytes s (Ok None) at' bytes' t = Answered at bytes (Ok None) at' bytes' × (t ≡ s)
   Step at bytes s (Ok (Some x)) at' bytes' t =
       Answered at bytes (Ok (Some x.record)) at' bytes'
-      × (Ok x.outcome ≡ add_answer (bounds s) (rows s) x.record.row)
-      × (rows t ≡ rows_after (rows s) x.record.row (Ok x.outcome))
-      × (bounds t ≡ bounds s)
-      × Changed grew s x.record.row (Ok x.outcome) t
+      × (Ok x.outcome ≡ add_answer (M.bounds s) (M.rows s) x.record.row)
+      × (M.rows t ≡ rows_after (M.rows s) x.record.row (Ok x.outcome))
+      × (M.bounds t ≡ M.bounds s)
+      × Changed M.grew s x.record.row (Ok x.outcome) t
   Step at bytes s (Err (Reading fault)) at' bytes' t = Answered at bytes (Err fault) at' bytes' × (t ≡ s)
   Step at bytes s (Err (Putting offset fault)) at' bytes' t =
       (r : Row)
       × (Answered at bytes (Ok (Some (record { offset = offset; row = r }))) at' bytes'
-      × RefusedBy (add_answer (bounds s) (rows s) r) fault
+      × RefusedBy (add_answer (M.bounds s) (M.rows s) r) fault
       × (t ≡ s))
   Step at bytes s (Err Input) at' bytes' t = ⊥
   Step at bytes s (Err (Opening fault)) at' bytes' t = ⊥
@@ -49,15 +48,15 @@ module _ {S : Type 0} (rows : S → List Row) (bounds : S → Limits) (grew : S 
   -- A table s became t as some facts were added in turn, and none of them was refused.
   pub record Took (s : S) (facts : List Row) (t : S) : Type 0 where
     pub are : AllByRecursion Fact facts
-    pub filled : Filled rows bounds grew (bounds s) s facts t
-    pub held : AllByRecursion (λ r. has (rows t) r ≡ true) facts
+    pub filled : Filled M (M.bounds s) s facts t
+    pub held : AllByRecursion (λ r. has (M.rows t) r ≡ true) facts
 
   -- What loading some bytes into a table s answers, and the table t that it leaves.
   abbrev pub Loading : List ℕ → S → Result ℕ ListingFault → S → Type 0
   -- the bytes are the file of facts, which the table took; n of them it did not hold already
   Loading bytes s (Ok n) t =
       (facts : List Row)
-      × (Took s facts t × (bytes ≡ file facts) × (n ≡ length (taken (bounds s) (rows s) facts)))
+      × (Took s facts t × (bytes ≡ file facts) × (n ≡ length (taken (M.bounds s) (M.rows s) facts)))
   -- the file of facts that the table took comes first, and what follows begins with no record
   Loading bytes s (Err (Reading fault)) t =
       (facts : List Row)
@@ -69,7 +68,7 @@ module _ {S : Type 0} (rows : S → List Row) (bounds : S → Limits) (grew : S 
       × ((r : Row)
       × ((rest : List ℕ)
       × (Took s facts t × Fact r × (bytes ≡ file facts ++ (written r ++ rest)) × (offset ≡ length (file facts))
-      × RefusedBy (add_answer (bounds t) (rows t) r) fault)))
+      × RefusedBy (add_answer (M.bounds t) (M.rows t) r) fault)))
   Loading bytes s (Err Input) t = ⊥
   Loading bytes s (Err (Opening fault)) t = ⊥
   Loading bytes s (Err (Running fault)) t = ⊥

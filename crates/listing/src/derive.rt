@@ -11,8 +11,8 @@ use table::Table;
 // Derives every missing row, and answers how many were added. The table has less room than the largest budget, so that this is
 // never spent.
 pub(crate) fn derive<T: Table>(running: &mut Running, t: &mut T) -> Result<u32, RunFault>
-    requires { (T.Table.bounds t.old).total < most }
-    ensures { Advancing T.Table.rows T.Table.bounds T.Table.grew most t.old (unspent result) t.new }
+    requires { (T.means.bounds t.old).total < most }
+    ensures { Advancing T.means most t.old (unspent result) t.new }
 {
     match running.advance(t, u32::MAX)? {
         Progress::Finished(n) => Ok(n),

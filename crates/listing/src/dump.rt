@@ -1,11 +1,10 @@
 // Every derived row of a facts file as text, or the one line of its refusal.
-ghost use Rattle.std.specs.Prelude.{◌≡◌, ◌<◌, ◌++◌, IfOk, Ok, Err, string_bytes, codes, MatchResult};
+ghost use Rattle.std.specs.Prelude.{◌≡◌, ◌<◌, length, IfOk, Ok, Err, string_bytes, MatchResult};
 ghost use Rattle.listing.specs.Listing.{most, Lists, Listing};
 ghost use Rattle.listing.specs.Dumps.{Dumped};
-ghost use Rattle.listing.specs.Text.{fault_words};
 
 use crate::derive::derive;
-use crate::fault::ListingFault;
+use crate::fault::{ListingFault, refusal};
 use crate::input::{MOST_BYTES, read_input};
 use crate::lines::lines;
 use crate::load::load;
@@ -40,33 +39,32 @@ pub fn dump(heap: Global, bytes: &[u8]) -> Result<String, AllocError>
     }
 }
 
-// The one line of a refusal.
-fn refusal(heap: Global, fault: ListingFault) -> Result<String, AllocError>
-    ensures { IfOk result (λ s. string_bytes s ≡ fault_words fault ++ codes "\n") }
+// The words of a table for a facts file, if it is no longer than a listing takes.
+pub(crate) fn words_for(heap: Global, bytes: &[u8]) -> Result<Vec<u32>, ListingFault>
+    ensures { IfOk result (λ v. length v.items ≡ WORDS) }
 {
-    match fault {
-        ListingFault::NoMemory => Err(AllocError),
-        _ => format!(in heap; "{fault}\n"),
+    if bytes.len() > MOST_BYTES {
+        return Err(ListingFault::Input);
     }
+    let words = vec![in heap; 0u32; WORDS]?;
+    List::check(words.as_slice(), WIDTH)?;
+    Ok(words)
 }
 
 // The derived rows of a facts file, on a list of its own.
 fn dump_rows(heap: Global, bytes: &[u8]) -> Result<Vec<Row>, ListingFault>
     ensures { IfOk result (λ v. Lists bytes.now v.items) }
 {
-    if bytes.len() > MOST_BYTES {
-        return Err(ListingFault::Input);
-    }
-    let mut words = vec![in heap; 0u32; WORDS]?;
-    List::check(words.as_slice(), WIDTH)?;
+    let mut words = words_for(heap, bytes)?;
     let mut list = List::make(words.as_mut_slice(), WIDTH);
     rows_of(heap, &mut list, bytes)
 }
 
 // The derived rows of a facts file, on any table.
+#[tactic(auto, using(crate::proofs::Derives::listings))]
 fn rows_of<T: Table>(heap: Global, t: &mut T, bytes: &[u8]) -> Result<Vec<Row>, ListingFault>
-    requires { (T.Table.bounds t.old).total < most }
-    ensures does { MatchResult result (λ v. Listing T.Table.rows T.Table.bounds T.Table.grew bytes.now t.old (Ok v.items) t.new) (λ e. Listing T.Table.rows T.Table.bounds T.Table.grew bytes.now t.old (Err e) t.new) }
+    requires { (T.means.bounds t.old).total < most }
+    ensures does { MatchResult result (λ v. Listing T.means bytes.now t.old (Ok v.items) t.new) (λ e. Listing T.means bytes.now t.old (Err e) t.new) }
     ensures lists { IfOk result (λ v. Lists bytes.now v.items) }
 {
     let mut filling = begin(t)?;

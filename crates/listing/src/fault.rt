@@ -1,5 +1,5 @@
 // Why a listing cannot be made.
-ghost use Rattle.std.specs.Prelude.{◌≡◌, Some};
+ghost use Rattle.std.specs.Prelude.{◌≡◌, ◌++◌, Some, IfOk, string_bytes, codes};
 ghost use Rattle.listing.specs.declared.fault.ListingFault.TheVariants.{Opening, Reading, Running, NoMemory};
 ghost use Rattle.listing.specs.Faults.{listing_number};
 ghost use Rattle.listing.specs.Text.{fault_words};
@@ -8,10 +8,11 @@ use analysis::fault::RunFault;
 use analysis::state::Unfinished;
 use facts::record::ReadFault;
 use rows::answer::OpenFault;
-use std::alloc::{AllocError, AllocFailed};
+use std::alloc::{AllocError, AllocFailed, Global};
+use std::error::Error;
 use std::fmt;
 
-#[derive(Clone, Copy)]
+#[derive(Clone, Copy, PartialEq, Eq, Debug)]
 pub enum ListingFault {
     // The input is longer than a listing takes, or could not be read.
     Input,
@@ -100,10 +101,7 @@ impl fmt::Display for ListingFault {
             return write!(f, "no memory");
         };
         match *self {
-            ListingFault::Reading(fault) => {
-                let offset = fault.offset();
-                write!(f, "refused {number} at {offset}")
-            }
+            ListingFault::Reading(fault) => write!(f, "{fault}"),
             ListingFault::Putting { offset, fault: _ } => write!(f, "refused {number} at {offset}"),
             ListingFault::Running(RunFault::Stopped(stop)) => {
                 let relation = stop.relation;
@@ -114,5 +112,17 @@ impl fmt::Display for ListingFault {
             | ListingFault::Opening(_)
             | ListingFault::NoMemory => write!(f, "refused {number}"),
         }
+    }
+}
+
+impl Error for ListingFault {}
+
+// The one line of a refusal. Want of memory stays an error.
+pub(crate) fn refusal(heap: Global, fault: ListingFault) -> Result<String, AllocError>
+    ensures { IfOk result (λ s. string_bytes s ≡ fault_words fault ++ codes "\n") }
+{
+    match fault {
+        ListingFault::NoMemory => Err(AllocError),
+        _ => format!(in heap; "{fault}\n"),
     }
 }

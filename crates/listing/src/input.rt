@@ -9,11 +9,12 @@ pub const MOST_BYTES: usize = 1_048_576;
 // The whole input. One byte past the limit is enough to know that it is too long.
 pub fn read_input<R: Read + Drop>(heap: Global, input: R) -> Result<Vec<u8>, ListingFault> {
     let mut bytes = Vec::new(heap);
-    match input.take(MOST_BYTES as u64 + 1).read_to_end(&mut bytes) {
-        Ok(_) => Ok(bytes),
-        Err(e) => match e.kind() {
-            ErrorKind::OutOfMemory => Err(ListingFault::NoMemory),
-            _ => Err(ListingFault::Input),
-        },
-    }
+    input
+        .take(MOST_BYTES as u64 + 1)
+        .read_to_end(&mut bytes)
+        .map_err(|e| match e.kind() {
+            ErrorKind::OutOfMemory => ListingFault::NoMemory,
+            _ => ListingFault::Input,
+        })?;
+    Ok(bytes)
 }

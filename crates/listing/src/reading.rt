@@ -9,8 +9,9 @@ use std::alloc::{AllocError, Global};
 use table::Table;
 
 // The rows of the derived relations, ascending, relation by relation.
+#[tactic(auto, using(crate::proofs::InOrder::relation_read))]
 pub fn read_derived<T: Table>(heap: Global, done: &Done, t: &T) -> Result<Vec<Row>, AllocError>
-    ensures { IfOk result (λ v. v.items ≡ rest (start 18) (T.Table.rows t.now)) }
+    ensures { IfOk result (λ v. v.items ≡ rest (start 18) (T.means.rows t.now)) }
 {
     let mut found = Vec::new(heap);
     for relation in FIRST_DERIVED..RELATIONS {
@@ -20,28 +21,19 @@ pub fn read_derived<T: Table>(heap: Global, done: &Done, t: &T) -> Result<Vec<Ro
 }
 
 // Adds the rows of a relation, ascending: each is read from right after the one before it.
+#[tactic(auto, using(crate::proofs::InOrder::readings))]
 pub fn read_relation<T: Table>(
     done: &Done,
     t: &T,
     relation: u32,
     found: &mut Vec<Row>,
 ) -> Result<(), AllocError>
-    ensures { OnOk result (found.new.items ≡ found.old.items ++ of_relation relation (T.Table.rows t.now)) }
+    ensures { OnOk result (found.new.items ≡ found.old.items ++ of_relation relation (T.means.rows t.now)) }
 {
-    let mut from = Row {
-        relation,
-        a: 0,
-        b: 0,
-        c: 0,
-    };
-    while let Some(r) = done.read(t, relation, from.a, from.b, from.c) {
+    let mut from = Row::start(relation);
+    while let Some(r) = done.read(t, from) {
         found.push(r)?;
-        from = Row {
-            relation,
-            a: r.a,
-            b: r.b,
-            c: r.c + 1,
-        };
+        from = r.after();
     }
     Ok(())
 }

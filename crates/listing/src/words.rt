@@ -1,37 +1,32 @@
 // Rows in words: the name of the relation, and what each code is.
-ghost use Rattle.std.specs.Prelude.{◌≡◌, ◌<◌, ◌≤◌, []};
-ghost use Rattle.facts.specs.Format.{mark};
+ghost use Rattle.std.specs.Prelude.{◌≡◌, [], map, Some, slice_index_or};
+ghost use Rattle.listing.specs.Words.{name, kinds, named, answer, tells_error};
 
+use rows::answer::Outcome;
 use rows::relation::*;
 use rows::row::Row;
 use std::fmt;
 
-// The marks of the fact relations, by number.
-const MARKS: [&str; 18] = [
-    "LI", "UR", "CE", "LK", "SB", "LV", "VU", "VD", "VX", "UD", "DD", "CP", "PV", "PA", "PM", "PC",
-    "KS", "PL",
-];
-
-// The mark of a relation, as the format of facts files has it; empty where it has none.
-pub fn mark_of(relation: u32) -> &'static str
-    ensures fact { relation < 18 → result.now ≡ mark relation }
-    ensures none { 18 ≤ relation → result.now ≡ [] }
+// The name of a relation; empty past the forty.
+#[tactic(auto, unfolding(crate::specs::Words::name))]
+pub fn name_of(relation: u32) -> &'static str
+    ensures { result.now ≡ name relation }
 {
-    let at = relation as usize;
-    if at < MARKS.len() { MARKS[at] } else { "" }
+    word_at(NAMES.as_slice(), relation)
 }
 
-// The name of a relation; empty past the forty.
-pub fn name_of(relation: u32) -> &'static str {
-    if relation < RELATIONS {
-        NAMES[relation as usize]
-    } else {
-        ""
-    }
+// The word that stands at a place, or an empty one. It takes any words, since the proof reads none of them.
+fn word_at(words: &[&'static str], place: u32) -> &'static str
+    ensures { result.now ≡ slice_index_or (map (λ s. s.now) words.now) place [] }
+{
+    words.get(place as usize).copied().unwrap_or("")
 }
 
 // What the codes of a relation's rows are. Relations of fewer places leave the last ones empty.
-fn kinds_of(relation: u32) -> [&'static str; 3] {
+#[tactic(auto, unfolding(crate::specs::Words::kinds))]
+fn kinds_of(relation: u32) -> [&'static str; 3]
+    ensures { map (λ s. s.now) result ≡ kinds relation }
+{
     match relation {
         LOAN_ISSUED_AT | ORIGIN_CONTAINS_LOAN_ON_ENTRY => ["origin", "loan", "point"],
         SUBSET_BASE | SUBSET | SUBSET_ERRORS => ["origin", "origin", "point"],
@@ -59,10 +54,12 @@ fn kinds_of(relation: u32) -> [&'static str; 3] {
 }
 
 // A row that shows as its relation's name and its codes, each with what it is.
-#[derive(Clone, Copy)]
+#[derive(Clone, Copy, PartialEq, Eq, Debug)]
 pub struct Named(pub Row);
 
 impl fmt::Display for Named {
+    ghost output = { λ x. Some (named x.0) };
+
     fn fmt<W: fmt::Write>(&self, f: &mut fmt::Formatter<W>) -> fmt::Result {
         let Row { relation, a, b, c } = self.0;
         let name = name_of(relation);
@@ -71,6 +68,59 @@ impl fmt::Display for Named {
             1 => write!(f, "{name}({first} {a})"),
             2 => write!(f, "{name}({first} {a}, {second} {b})"),
             _ => write!(f, "{name}({first} {a}, {second} {b}, {third} {c})"),
+        }
+    }
+}
+
+// Whether a row was new.
+pub fn word_of(outcome: Outcome) -> &'static str
+    ensures { result.now ≡ answer outcome }
+{
+    match outcome {
+        Outcome::Added => "added",
+        Outcome::Held => "held already",
+    }
+}
+
+// The relations whose rows are errors.
+pub fn is_error(relation: u32) -> bool
+    ensures { result ≡ tells_error relation }
+{
+    matches!(
+        relation,
+        MOVE_ERROR | ERRORS | SUBSET_ERRORS | POTENTIAL_ERRORS | POTENTIAL_SUBSET_ERRORS
+    )
+}
+
+// An error that shows with what it means.
+#[derive(Clone, Copy, PartialEq, Eq, Debug)]
+pub struct Explained(pub Row);
+
+impl fmt::Display for Explained {
+    fn fmt<W: fmt::Write>(&self, f: &mut fmt::Formatter<W>) -> fmt::Result {
+        let named = Named(self.0);
+        let Row { relation, a, b, c } = self.0;
+        match relation {
+            MOVE_ERROR => write!(
+                f,
+                "{named}: path {a} is accessed at point {b}, and some way there has moved it and not assigned it again"
+            ),
+            ERRORS => write!(
+                f,
+                "{named}: at point {b} something is done that loan {a} forbids, while a reference that may stem from loan {a} is still used later"
+            ),
+            SUBSET_ERRORS => write!(
+                f,
+                "{named}: at point {c} what origin {a} refers to flows into origin {b}, and the signature does not say that it may"
+            ),
+            POTENTIAL_ERRORS => write!(
+                f,
+                "{named}: the quick analysis, which does not follow where a loan flows, cannot rule out an error of loan {a} at point {b}"
+            ),
+            _ => write!(
+                f,
+                "{named}: the quick analysis cannot rule out that what origin {a} refers to flows into origin {b}, which the signature does not allow"
+            ),
         }
     }
 }

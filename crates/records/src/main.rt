@@ -1,24 +1,19 @@
 // Prints the records of a facts file on standard input, one to a line: the offset, the relation's name and its codes.
-// A file that cannot be read prints one line: the number of the refusal and its offset.
+// A file that cannot be read prints one line: the refusal.
 #![tactic(auto)]
 
 use facts::record::Record;
-use facts::whole::{WholeFault, read_all};
-use rows::relation;
+use facts::whole::read_all;
+use rows::relation::{NAMES, places};
+use rows::row::Row;
 use std::io;
 use std::io::Read;
 
-fn print_record(rt: &impl Print, record: &Record) -> io::Result<()> {
-    let offset = record.offset;
-    let row = record.row;
-    let name = relation::NAMES
-        .get(row.relation as usize)
-        .copied()
-        .unwrap_or("");
-    let a = row.a;
-    let b = row.b;
-    let c = row.c;
-    match relation::places(row.relation) {
+fn print_record(rt: &impl Print, record: Record) -> io::Result<()> {
+    let Record { offset, row } = record;
+    let Row { relation, a, b, c } = row;
+    let name = NAMES.get(relation as usize).copied().unwrap_or("");
+    match places(relation) {
         1 => println!(rt; "{offset} {name} {a}"),
         2 => println!(rt; "{offset} {name} {a} {b}"),
         _ => println!(rt; "{offset} {name} {a} {b} {c}"),
@@ -30,18 +25,13 @@ fn main(rt: HostRuntime) -> io::Result<()> {
     rt.stdin().read_to_end(&mut bytes)?;
     match read_all(rt.alloc(), bytes.as_slice()) {
         Ok(records) => {
-            for record in &records {
+            for record in records {
                 print_record(&rt, record)?;
             }
+            Ok(())
         }
-        Err(WholeFault::Unread(fault)) => {
-            let number = fault.number();
-            let offset = fault.offset();
-            println!(rt; "refused {number} at {offset}")?;
-        }
-        Err(WholeFault::NoMemory) => println!(rt; "no memory")?,
+        Err(fault) => println!(rt; "{fault}"),
     }
-    Ok(())
 }
 
 #[cfg(test)]

@@ -7,7 +7,7 @@ use Rattle.rows.specs.declared.answer.Outcome.TheVariants.{Held, Added}
 use Rattle.rows.specs.declared.answer.TableFault.{TableFault}
 use Rattle.rows.specs.declared.answer.Limits.{Limits}
 use Rattle.rows.specs.Rows.{insert}
-use Rattle.rows.specs.Tables.{add_answer, rows_after}
+use Rattle.rows.specs.Tables.{Meaning, standing, add_answer, rows_after}
 use Rattle.rows.specs.Changes.{Changed}
 use Rattle.rows.specs.Adding.{went_in, taken, joined, Grown, Filled}
 
@@ -64,60 +64,59 @@ pub grown_under : {S Q : Type 0} (grew : S → Row → S → Type 0) (grown : Q 
 grown_under grew grown part f q [] p e = ap part e
 grown_under grew grown part f q (r ∷ rs) p h = (part h.0, (f q r h.0 h.1.0, grown_under grew grown part f h.0 rs p h.1.1))
 
-module _ {S : Type 0} (rows : S → List Row) (bounds : S → Limits) (grew : S → Row → S → Type 0) where
-  pub filled_none : (s : S) → Filled rows bounds grew (bounds s) s [] s
+module _ {S : Type 0} (M : Meaning S) where
+  pub filled_none : (s : S) → Filled M (M.bounds s) s [] s
   unfolding taken joined
   filled_none s = record { held = refl; kept = refl; grown = refl }
 
-  module _ (m : Limits) (s t u : S) (r : Row) (qs ys : List Row) (h : rows t ≡ joined (rows s) ys) (k : bounds t ≡ bounds s) (g : Grown grew s ys t) where
-    idle : taken m (rows s) qs ≡ ys ++ [] → u ≡ t → Filled rows bounds grew m s qs u
+  module _ (m : Limits) (s t u : S) (r : Row) (qs ys : List Row) (h : M.rows t ≡ joined (M.rows s) ys) (k : M.bounds t ≡ M.bounds s) (g : Grown M.grew s ys t) where
+    idle : taken m (M.rows s) qs ≡ ys ++ [] → u ≡ t → Filled M m s qs u
     idle n e =
         let z = sym (n ∙ append-nil ys) in
         record {
-          held = ap rows e ∙ h ∙ ap (joined (rows s)) z;
-          kept = ap bounds e ∙ k;
-          grown = subst (λ zs. Grown grew s zs u) z (subst (λ v. Grown grew s ys v) (sym e) g);
+          held = ap M.rows e ∙ h ∙ ap (joined (M.rows s)) z;
+          kept = ap M.bounds e ∙ k;
+          grown = subst (λ zs. Grown M.grew s zs u) z (subst (λ v. Grown M.grew s ys v) (sym e) g);
         }
 
-    step : (a : Result Outcome TableFault) → taken m (rows s) qs ≡ ys ++ cond (went_in a) (r ∷ []) [] → rows u ≡ rows_after (rows t) r a → bounds u ≡ bounds t → Changed grew t r a u
-        → Filled rows bounds grew m s qs u
+    step : (a : Result Outcome TableFault) → taken m (M.rows s) qs ≡ ys ++ cond (went_in a) (r ∷ []) [] → M.rows u ≡ rows_after (M.rows t) r a → M.bounds u ≡ M.bounds t → Changed M.grew t r a u
+        → Filled M m s qs u
     unfolding rows_after
     step (Ok Held) n a b c = idle n c
     step (Ok Added) n a b c =
         record {
-          held = a ∙ ap (insert r) h ∙ sym (joined_more (rows s) ys r) ∙ ap (joined (rows s)) (sym n);
+          held = a ∙ ap (insert r) h ∙ sym (joined_more (M.rows s) ys r) ∙ ap (joined (M.rows s)) (sym n);
           kept = b ∙ k;
-          grown = subst (λ zs. Grown grew s zs u) (sym n) (grown_more grew s ys r t u g c);
+          grown = subst (λ zs. Grown M.grew s zs u) (sym n) (grown_more M.grew s ys r t u g c);
         }
     step (Err x) n a b c = idle n c
 
   -- one row more
-  pub filled_more : (s : S) (rs : List Row) (t : S) (r : Row) (u : S) (a : Result Outcome TableFault) → Filled rows bounds grew (bounds s) s rs t
-      → a ≡ add_answer (bounds t) (rows t) r → rows u ≡ rows_after (rows t) r a → bounds u ≡ bounds t → Changed grew t r a u
-      → Filled rows bounds grew (bounds s) s (rs ++ (r ∷ [])) u
+  pub filled_more : (s : S) (rs : List Row) (t : S) (r : Row) (u : S) (a : Result Outcome TableFault) → Filled M (M.bounds s) s rs t
+      → a ≡ add_answer (M.bounds t) (M.rows t) r → M.rows u ≡ rows_after (M.rows t) r a → M.bounds u ≡ M.bounds t → Changed M.grew t r a u
+      → Filled M (M.bounds s) s (rs ++ (r ∷ [])) u
   filled_more s rs t r u a f e h k c =
-      let m = bounds s in
-      let ys = taken m (rows s) rs in
-      let w : add_answer m (joined (rows s) ys) r ≡ a = sym (e ∙ (λ i. add_answer (f.kept i) (f.held i) r)) in
+      let m = M.bounds s in
+      let ys = taken m (M.rows s) rs in
+      let w : add_answer m (joined (M.rows s) ys) r ≡ a = sym (e ∙ (λ i. add_answer (f.kept i) (f.held i) r)) in
       step m s t u r (rs ++ (r ∷ [])) ys f.held f.kept f.grown a
-      (taken_more m (rows s) rs r ∙ ap (λ b. ys ++ cond (went_in b) (r ∷ []) []) w) h k c
+      (taken_more m (M.rows s) rs r ∙ ap (λ b. ys ++ cond (went_in b) (r ∷ []) []) w) h k c
 
   -- how many more rows one more takes
-  pub taken_counts : (s : S) (rs : List Row) (t : S) (r : Row) (a : Result Outcome TableFault) → Filled rows bounds grew (bounds s) s rs t
-      → a ≡ add_answer (bounds t) (rows t) r
-      → length (taken (bounds s) (rows s) (rs ++ (r ∷ []))) ≡ length (taken (bounds s) (rows s) rs) + cond (went_in a) 1 0
+  pub taken_counts : (s : S) (rs : List Row) (t : S) (r : Row) (a : Result Outcome TableFault) → Filled M (M.bounds s) s rs t
+      → a ≡ add_answer (M.bounds t) (M.rows t) r
+      → length (taken (M.bounds s) (M.rows s) (rs ++ (r ∷ []))) ≡ length (taken (M.bounds s) (M.rows s) rs) + cond (went_in a) 1 0
   taken_counts s rs t r a f e =
-      let m = bounds s in
-      let ys = taken m (rows s) rs in
-      let w : add_answer m (joined (rows s) ys) r ≡ a = sym (e ∙ (λ i. add_answer (f.kept i) (f.held i) r)) in
-      ap length (taken_more m (rows s) rs r ∙ ap (λ b. ys ++ cond (went_in b) (r ∷ []) []) w) ∙ length-append ys _
+      let m = M.bounds s in
+      let ys = taken m (M.rows s) rs in
+      let w : add_answer m (joined (M.rows s) ys) r ≡ a = sym (e ∙ (λ i. add_answer (f.kept i) (f.held i) r)) in
+      ap length (taken_more m (M.rows s) rs r ∙ ap (λ b. ys ++ cond (went_in b) (r ∷ []) []) w) ∙ length-append ys _
       ∙ elim (went_in a) as (λ b. length ys + length (cond b (r ∷ []) []) ≡ length ys + cond b 1 0) [ true ↦ refl | false ↦ refl ]
 
--- a whole that is filled, as a part of it that is filled
-pub filled_under : {S Q : Type 0} (rows : S → List Row) (bounds : S → Limits) (grew : S → Row → S → Type 0)
-    (limits : Q → Limits) (grown : Q → Row → Q → Type 0) (part : Q → S)
-    → ((q : Q) (r : Row) (p : Q) → grown q r p → grew (part q) r (part p)) → ((s : S) (r : Row) (t : S) → grew s r t → bounds t ≡ bounds s)
-    → (m : Limits) (q : Q) (rs : List Row) (p : Q) → Filled (λ x. rows (part x)) limits grown m q rs p → Filled rows bounds grew m (part q) rs (part p)
-filled_under rows bounds grew limits grown part down steady m q rs p f =
-    let g = grown_under grew grown part down q (taken m (rows (part q)) rs) p f.grown in
-    record { held = f.held; kept = grown_keeps grew bounds steady (part q) (taken m (rows (part q)) rs) (part p) g; grown = g }
+-- a table that is filled, as the one that it stands on
+pub filled_under : {S Q : Type 0} (M : Meaning S) (limits : Q → Limits) (grown : Q → Row → Q → Type 0) (below : Q → S)
+    → ((q : Q) (r : Row) (p : Q) → grown q r p → M.grew (below q) r (below p)) → ((s : S) (r : Row) (t : S) → M.grew s r t → M.bounds t ≡ M.bounds s)
+    → (m : Limits) (q : Q) (rs : List Row) (p : Q) → Filled (standing below M limits grown) m q rs p → Filled M m (below q) rs (below p)
+filled_under M limits grown below down steady m q rs p f =
+    let g = grown_under M.grew grown below down q (taken m (M.rows (below q)) rs) p f.grown in
+    record { held = f.held; kept = grown_keeps M.grew M.bounds steady (below q) (taken m (M.rows (below q)) rs) (below p) g; grown = g }

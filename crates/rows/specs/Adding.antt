@@ -6,7 +6,7 @@ use Rattle.rows.specs.declared.answer.Outcome.TheVariants.{Held, Added}
 use Rattle.rows.specs.declared.answer.TableFault.{TableFault}
 use Rattle.rows.specs.declared.answer.Limits.{Limits}
 use Rattle.rows.specs.Rows.{insert}
-use Rattle.rows.specs.Tables.{add_answer}
+use Rattle.rows.specs.Tables.{Meaning, add_answer}
 
 -- whether an add put its row in
 abbrev pub went_in : Result Outcome TableFault → Bool
@@ -29,7 +29,7 @@ Grown grew s [] t = t ≡ s
 Grown {S} grew s (r ∷ rs) t = (m : S) × (grew s r m × Grown grew m rs t)
 
 -- A table s became t as each of the rows rs was added in turn, under the limits m.
-pub record Filled {S : Type 0} (rows : S → List Row) (bounds : S → Limits) (grew : S → Row → S → Type 0) (m : Limits) (s : S) (rs : List Row) (t : S) : Type 0 where
-  pub held : rows t ≡ joined (rows s) (taken m (rows s) rs)
-  pub kept : bounds t ≡ bounds s
-  pub grown : Grown grew s (taken m (rows s) rs) t
+pub record Filled {S : Type 0} (M : Meaning S) (m : Limits) (s : S) (rs : List Row) (t : S) : Type 0 where
+  pub held : M.rows t ≡ joined (M.rows s) (taken m (M.rows s) rs)
+  pub kept : M.bounds t ≡ M.bounds s
+  pub grown : Grown M.grew s (taken m (M.rows s) rs) t

@@ -2,7 +2,8 @@ ghost use Rattle.std.specs.Prelude.{◌≡◌};
 ghost use Rattle.rows.specs.Rows.{places};
 
 // The forty relations, by number. 0 to 17 are the facts, in the order of `AllFacts`; 18 to 39 are derived, in the
-// order in which they are completed.
+// order in which they are completed. They are numbers and no enum, since a row may name any number: each call says what it
+// answers past the forty, and a type that rules those out would ask more of callers.
 
 pub const RELATIONS: u32 = 40;
 
@@ -89,7 +90,8 @@ pub const POTENTIAL_ERRORS: u32 = 38;
 
 pub const POTENTIAL_SUBSET_ERRORS: u32 = 39;
 
-// The name of each relation, by its number.
+// The name of each relation, by its number. A table of its own, as the marks of facts and the numbers of places are: each is
+// told by itself, and has a contract of its own.
 pub const NAMES: [&str; 40] = [
     "loan_issued_at",
     "universal_region",

@@ -1,10 +1,14 @@
 // A row: a relation number and three codes, which are atom numbers; unused places hold 0.
+#![tactic(auto, unfolding(crate::specs::Rows::same, crate::specs::Rows::admissible))]
+
 ghost use Rattle.std.specs.Prelude.{◌≡◌, ◌+◌, ◌<◌};
-ghost use Rattle.rows.specs.Rows.{before, same, bump, admissible};
+ghost use Rattle.rows.specs.Relations.{row3};
+ghost use Rattle.rows.specs.Rows.{before, same, bump, start, admissible};
 
 use crate::relation::{RELATIONS, places};
 
-#[derive(Clone, Copy)]
+// Rows compare as the fields stand: by relation, then code by code.
+#[derive(Clone, Copy, PartialEq, Eq, PartialOrd, Ord, Debug, Default)]
 pub struct Row {
     pub relation: u32,
     pub a: u32,
@@ -13,28 +17,31 @@ pub struct Row {
 }
 
 impl Row {
-    // Whether the row comes before another: by relation, then code by code.
+    pub fn new(relation: u32, a: u32, b: u32, c: u32) -> Row
+        ensures { result ≡ row3 relation a b c }
+    {
+        Row { relation, a, b, c }
+    }
+
+    // The first row that a relation could have.
+    pub fn start(relation: u32) -> Row
+        ensures { result ≡ start relation }
+    {
+        Row::new(relation, 0, 0, 0)
+    }
+
+    // `<`, told by the order of the definitions.
     pub fn before(&self, other: &Row) -> bool
         ensures { result ≡ before self.now other.now }
     {
-        if self.relation != other.relation {
-            self.relation < other.relation
-        } else if self.a != other.a {
-            self.a < other.a
-        } else if self.b != other.b {
-            self.b < other.b
-        } else {
-            self.c < other.c
-        }
+        self < other
     }
 
+    // `==`, told likewise.
     pub fn same(&self, other: &Row) -> bool
         ensures { result ≡ same self.now other.now }
     {
-        (self.relation == other.relation)
-            & (self.a == other.a)
-            & (self.b == other.b)
-            & (self.c == other.c)
+        self == other
     }
 
     // The row right after this one: no row lies between.
@@ -43,10 +50,8 @@ impl Row {
         ensures { result ≡ bump self.now }
     {
         Row {
-            relation: self.relation,
-            a: self.a,
-            b: self.b,
             c: self.c + 1,
+            ..*self
         }
     }
 
@@ -57,6 +62,6 @@ impl Row {
         let places = places(self.relation);
         let second = if places == 1 { 1 } else { width };
         let third = if places == 3 { width } else { 1 };
-        (self.relation < RELATIONS) & (self.a < width) & (self.b < second) & (self.c < third)
+        self.relation < RELATIONS && self.a < width && self.b < second && self.c < third
     }
 }

@@ -1,74 +1,66 @@
-// The answers of the calls, a line to each.
+// What the calls answer, as text.
 use analysis::fault::RunFault;
-use analysis::state::{Filling, Unfinished};
 use output::progress::Progress;
 use rows::answer::Outcome;
 use rows::row::Row;
-use std::io;
+use std::fmt;
 
-// A refusal: its number, and what it carries.
-fn print_fault(rt: &impl Print, fault: RunFault) -> io::Result<()> {
-    let number = fault.number();
-    match fault {
-        RunFault::Refused(refusal) => {
-            let facts = refusal.facts;
-            println!(rt; "refused {number}, {facts} facts")
+// An answer that shows as a line of the tests has it.
+#[derive(Clone, Copy)]
+pub struct Told<T>(pub T);
+
+// The row's four numbers.
+impl fmt::Display for Told<Row> {
+    fn fmt<W: fmt::Write>(&self, f: &mut fmt::Formatter<W>) -> fmt::Result {
+        let Row { relation, a, b, c } = self.0;
+        write!(f, "{relation} {a} {b} {c}")
+    }
+}
+
+impl fmt::Display for Told<Option<Row>> {
+    fn fmt<W: fmt::Write>(&self, f: &mut fmt::Formatter<W>) -> fmt::Result {
+        match self.0 {
+            Some(r) => Told(r).fmt(f),
+            None => write!(f, "none"),
         }
-        RunFault::Stopped(stop) => {
-            let relation = stop.relation;
-            let added = stop.added;
-            println!(rt; "refused {number}, relation {relation}, {added} added")
+    }
+}
+
+// The number of a refusal, and what it carries.
+impl fmt::Display for Told<RunFault> {
+    fn fmt<W: fmt::Write>(&self, f: &mut fmt::Formatter<W>) -> fmt::Result {
+        let number = self.0.number();
+        match self.0 {
+            RunFault::Refused(refusal) => {
+                let facts = refusal.facts;
+                write!(f, "refused {number}, {facts} facts")
+            }
+            RunFault::Stopped(stop) => {
+                let relation = stop.relation;
+                let added = stop.added;
+                write!(f, "refused {number}, relation {relation}, {added} added")
+            }
+            _ => write!(f, "refused {number}"),
         }
-        _ => println!(rt; "refused {number}"),
     }
 }
 
-pub fn print_row(rt: &impl Print, r: Row) -> io::Result<()> {
-    let Row { relation, a, b, c } = r;
-    println!(rt; "{relation} {a} {b} {c}")
-}
-
-pub fn print_put(rt: &impl Print, r: Row, answer: Result<Outcome, RunFault>) -> io::Result<()> {
-    let Row { relation, a, b, c } = r;
-    print!(rt; "put {relation} {a} {b} {c}: ")?;
-    match answer {
-        Ok(Outcome::Added) => println!(rt; "added"),
-        Ok(Outcome::Held) => println!(rt; "held"),
-        Err(fault) => print_fault(rt, fault),
+impl fmt::Display for Told<Result<Outcome, RunFault>> {
+    fn fmt<W: fmt::Write>(&self, f: &mut fmt::Formatter<W>) -> fmt::Result {
+        match self.0 {
+            Ok(Outcome::Added) => write!(f, "added"),
+            Ok(Outcome::Held) => write!(f, "held"),
+            Err(fault) => Told(fault).fmt(f),
+        }
     }
 }
 
-pub fn print_advance(
-    rt: &impl Print,
-    budget: u32,
-    answer: Result<Progress, RunFault>,
-) -> io::Result<()> {
-    print!(rt; "advance {budget}: ")?;
-    match answer {
-        Ok(Progress::Finished(n)) => println!(rt; "Finished {n}"),
-        Ok(Progress::Spent(n)) => println!(rt; "Spent {n}"),
-        Err(fault) => print_fault(rt, fault),
+impl fmt::Display for Told<Result<Progress, RunFault>> {
+    fn fmt<W: fmt::Write>(&self, f: &mut fmt::Formatter<W>) -> fmt::Result {
+        match self.0 {
+            Ok(Progress::Finished(n)) => write!(f, "Finished {n}"),
+            Ok(Progress::Spent(n)) => write!(f, "Spent {n}"),
+            Err(fault) => Told(fault).fmt(f),
+        }
     }
-}
-
-pub fn print_read(rt: &impl Print, q: Row, answer: Option<Row>) -> io::Result<()> {
-    let Row { relation, a, b, c } = q;
-    print!(rt; "read {relation} {a} {b} {c}: ")?;
-    match answer {
-        Some(r) => print_row(rt, r),
-        None => println!(rt; "none"),
-    }
-}
-
-pub fn print_begin(rt: &impl Print, answer: Result<Filling, RunFault>) -> io::Result<()> {
-    print!(rt; "begin: ")?;
-    match answer {
-        Ok(_) => println!(rt; "accepted"),
-        Err(fault) => print_fault(rt, fault),
-    }
-}
-
-pub fn print_unfinished(rt: &impl Print, unfinished: &Unfinished) -> io::Result<()> {
-    print!(rt; "settle: ")?;
-    print_fault(rt, unfinished.fault)
 }

@@ -1,6 +1,5 @@
 // Facts put in any order give one table.
-use crate::answers::print_row;
-use crate::example::row;
+use crate::answers::Told;
 use crate::whole::put_all;
 use analysis::begin::begin;
 use list::List;
@@ -10,9 +9,9 @@ use std::io;
 use table::Table;
 
 fn orders() -> [[Row; 3]; 6] {
-    let issued = row(LOAN_ISSUED_AT, 0, 0, 0);
-    let region = row(UNIVERSAL_REGION, 0, 0, 0);
-    let edge = row(CFG_EDGE, 0, 1, 0);
+    let issued = Row::new(LOAN_ISSUED_AT, 0, 0, 0);
+    let region = Row::new(UNIVERSAL_REGION, 0, 0, 0);
+    let edge = Row::new(CFG_EDGE, 0, 1, 0);
     [
         [issued, region, edge],
         [issued, edge, region],
@@ -23,14 +22,17 @@ fn orders() -> [[Row; 3]; 6] {
     ]
 }
 
-// The rows of a table, ascending.
+// The rows of a table, ascending. As many steps as the table has rows: so the loop ends with no proof.
 fn rows_of<T: Table>(rt: &HostRuntime, t: &T) -> io::Result<Vec<Row>> {
     let mut rows = Vec::new(rt.alloc());
-    let mut from = row(0, 0, 0, 0);
+    let mut from = Row::start(0);
     for _ in 0..t.count() {
         if let Some(r) = t.next(from) {
             rows.push(r)?;
-            from = row(r.relation, r.a, r.b, r.c.saturating_add(1));
+            from = Row {
+                c: r.c.saturating_add(1),
+                ..r
+            };
         }
     }
     Ok(rows)
@@ -40,8 +42,7 @@ fn rows_of<T: Table>(rt: &HostRuntime, t: &T) -> io::Result<Vec<Row>> {
 fn rows_from(rt: &HostRuntime, facts: &[Row]) -> io::Result<Vec<Row>> {
     let mut words = [0u32; 400];
     let mut t = List::make(&mut words, 2);
-    if let Ok(filling) = begin(&t) {
-        let mut filling = filling;
+    if let Ok(mut filling) = begin(&t) {
         put_all(rt, &mut filling, &mut t, facts)?;
         let mut running = filling.start();
         let _ = running.advance(&mut t, 100);
@@ -49,27 +50,15 @@ fn rows_from(rt: &HostRuntime, facts: &[Row]) -> io::Result<Vec<Row>> {
     rows_of(rt, &t)
 }
 
-fn same(one: &[Row], other: &[Row]) -> bool {
-    if one.len() != other.len() {
-        return false;
-    }
-    for i in 0..one.len() {
-        if !one[i].same(&other[i]) {
-            return false;
-        }
-    }
-    true
-}
-
 pub fn every_order(rt: &HostRuntime) -> io::Result<()> {
     let orders = orders();
     let first = rows_from(rt, &orders[0])?;
     for r in &first {
-        print_row(rt, *r)?;
+        println!(rt; "{}", Told(*r))?;
     }
     for facts in &orders {
         let rows = rows_from(rt, facts)?;
-        if same(rows.as_slice(), first.as_slice()) {
+        if rows.as_slice() == first.as_slice() {
             rt.println("same")?;
         } else {
             rt.println("another table")?;

@@ -1,9 +1,8 @@
 -- A fact in atoms is known by its row: the law of atoms carried to facts, and the promise told in atoms.
-use Rattle.std.proofs.Common.{◌≡◌, ℕ, ◌<◌, cond, eqb, ◌⊎◌, List, [], ◌∷◌, ◌++◌, Some, None, Ok, Err, Option, sym, refl, ap, ◌∙◌, subst, inl, inr, ⊎_elim, arith}
+use Rattle.std.proofs.Common.{◌≡◌, ℕ, ◌<◌, cond, eqb, ◌⊎◌, List, [], ◌∷◌, ◌++◌, Some, None, Ok, Option, sym, refl, ap, ◌∙◌, subst, inl, inr, ⊎_elim, arith}
 use Rattle.rows.specs.declared.row.Row.{Row}
-use Rattle.rows.specs.declared.answer.Limits.{Limits}
 use Rattle.rows.specs.declared.answer.Outcome.{Outcome}
-use Rattle.rows.specs.Tables.{Lawful}
+use Rattle.rows.specs.Tables.{Meaning, Lawful}
 use Rattle.datalog.specs.Contents.{Among}
 use Rattle.datalog.proofs.Closes.{insert_cases, insert_keeps, insert_here}
 use Rattle.datalog.proofs.Complete.{complete_below}
@@ -17,7 +16,7 @@ use Rattle.runs.specs.declared.script.Call.{Call}
 use Rattle.runs.specs.declared.script.Call.TheVariants as call
 use Rattle.runs.specs.declared.script.Step.{Step}
 use Rattle.runs.specs.declared.script.Event.{Event}
-use Rattle.runs.specs.declared.script.Event.TheVariants.{NotMade, Began, Put, Started, Advanced, Settled, Read}
+use Rattle.runs.specs.declared.script.Event.TheVariants.{Put}
 use Rattle.runs.specs.Histories.{accept, accepted_onto, accepted}
 use Rattle.runs.specs.Traces.{Deed, deed, Order, orders, Phase, Act, Turn, Trace}
 use Rattle.runs.specs.Told.{InAtom, InAtoms, Accepted, ToldInAtoms}
@@ -29,13 +28,8 @@ then (Some x) f = f x
 
 -- each event is of the call in its place
 abbrev TiedOne : Order → Event → Type 0
-TiedOne d NotMade = Unit {0}
-TiedOne d (Began a) = Unit {0}
 TiedOne d (Put r a) = d.deed ≡ Deed.put r
-TiedOne d Started = Unit {0}
-TiedOne d (Advanced b a) = Unit {0}
-TiedOne d (Settled a) = Unit {0}
-TiedOne d (Read q a) = Unit {0}
+TiedOne d _ = Unit {0}
 
 abbrev Tied : List Order → List Event → Type 0
 Tied [] [] = Unit {0}
@@ -49,8 +43,8 @@ tied_more [] (x ∷ es) d e t u = absurd t
 tied_more (x ∷ ds) [] d e t u = absurd t
 tied_more (x ∷ ds) (y ∷ es) d e t u = (t.0, tied_more ds es d e t.1 u)
 
-module _ {S : Type 0} (rows : S → List Row) (bounds : S → Limits) (grew : S → Row → S → Type 0) where
-  act_tied : (i : ℕ) (ph q : Phase) (t u : S) (d : Deed) (e : Event) → Act rows bounds grew ph t d e q u → TiedOne (record { run = i; deed = d }) e
+module _ {S : Type 0} (M : Meaning S) where
+  act_tied : (i : ℕ) (ph q : Phase) (t u : S) (d : Deed) (e : Event) → Act M ph t d e q u → TiedOne (record { run = i; deed = d }) e
   act_tied i ph q t u d e (Act.not_made x) = tt
   act_tied i ph q t u d e (Act.puts n m r a put) = refl
   act_tied i ph q t u d e (Act.starts n) = tt
@@ -59,12 +53,12 @@ module _ {S : Type 0} (rows : S → List Row) (bounds : S → Limits) (grew : S 
   act_tied i ph q t u d e (Act.not_settled x) = tt
   act_tied i ph q t u d e (Act.reads r a x) = tt
 
-  turn_tied : (ps qs : List Phase) (t u : S) (d : Order) (e : Event) → Turn rows bounds grew ps t d e qs u → TiedOne d e
+  turn_tied : (ps qs : List Phase) (t u : S) (d : Order) (e : Event) → Turn M ps t d e qs u → TiedOne d e
   turn_tied ps qs t u d e (Turn.began i x y) = tt
   turn_tied ps qs t u d e (Turn.not_begun i x) = tt
   turn_tied ps qs t u d e (Turn.acts i deed q a) = act_tied i _ q t u deed e a
 
-  trace_tied : {ds : List Order} {es : List Event} {ps : List Phase} {s t : S} → Trace rows bounds grew ds es ps s t → Tied ds es
+  trace_tied : {ds : List Order} {es : List Event} {ps : List Phase} {s t : S} → Trace M ds es ps s t → Tied ds es
   trace_tied Trace.opened = tt
   trace_tied (Trace.then {os = ds} {es = es} {ps = ps} {qs = qs} {t = t} {u = u} d e before turn) = tied_more ds es d e (trace_tied before) (turn_tied ps qs t u d e turn)
 
@@ -77,28 +71,16 @@ SomePut r [] = ⊥
 SomePut r (e ∷ es) = PutOne r e ⊎ SomePut r es
 
 accept_either : (r : Row) (e : Event) (facts : List Row) → Among (accept e facts) r → Among facts r ⊎ PutOne r e
-accept_either r NotMade facts h = inl h
-accept_either r (Began a) facts h = inl h
 accept_either r (Put x (Ok outcome)) facts h = ⊎_elim (λ e. inr (outcome, ap (λ (y : Row). Put y (Ok outcome)) e)) inl (insert_cases x r facts h)
-accept_either r (Put x (Err a)) facts h = inl h
-accept_either r Started facts h = inl h
-accept_either r (Advanced b a) facts h = inl h
-accept_either r (Settled a) facts h = inl h
-accept_either r (Read q a) facts h = inl h
+accept_either r _ facts h = inl h
 
 was_put : (r : Row) (facts : List Row) (es : List Event) → Among (accepted_onto facts es) r → Among facts r ⊎ SomePut r es
 was_put r facts [] h = inl h
 was_put r facts (e ∷ es) h = ⊎_elim (λ k. ⊎_elim inl (λ q. inr (inl q)) (accept_either r e facts k)) (λ k. inr (inr k)) (was_put r (accept e facts) es h)
 
 accept_keeps : (r : Row) (e : Event) (facts : List Row) → Among facts r → Among (accept e facts) r
-accept_keeps r NotMade facts h = h
-accept_keeps r (Began a) facts h = h
 accept_keeps r (Put x (Ok outcome)) facts h = insert_keeps x r facts h
-accept_keeps r (Put x (Err a)) facts h = h
-accept_keeps r Started facts h = h
-accept_keeps r (Advanced b a) facts h = h
-accept_keeps r (Settled a) facts h = h
-accept_keeps r (Read q a) facts h = h
+accept_keeps r _ facts h = h
 
 kept_on : (r : Row) (facts : List Row) (es : List Event) → Among facts r → Among (accepted_onto facts es) r
 kept_on r facts [] h = h
@@ -212,13 +194,9 @@ module _ (F : Type 0) {O L P V H : Type 0} (o : O → ℕ) (l : L → ℕ) (p : 
 
   -- a put in atoms of a row is the put of a fact
   in_atoms : (c : Call F O L P V H) (r : Row) → InAtom c → deed o l p v h c ≡ Deed.put r → (f : Fact F O L P V H) × (c ≡ call.PutFact f) × (row_of o l p v h f ≡ r)
-  in_atoms call.Begin r a e = absurd (let z : ◌≡◌ {A = ℕ} 0 1 = cc in omega arith)
   in_atoms (call.Put x) r a e = absurd a
   in_atoms (call.PutFact f) r a e = (f, refl, cc)
-  in_atoms call.Start r a e = absurd (let z : ◌≡◌ {A = ℕ} 0 1 = cc in omega arith)
-  in_atoms (call.Advance b) r a e = absurd (let z : ◌≡◌ {A = ℕ} 0 1 = cc in omega arith)
-  in_atoms call.Settle r a e = absurd (let z : ◌≡◌ {A = ℕ} 0 1 = cc in omega arith)
-  in_atoms (call.Read q) r a e = absurd (let z : ◌≡◌ {A = ℕ} 0 1 = cc in omega arith)
+  in_atoms _ r a e = cc
 
   put_found : (f : Fact F O L P V H) (ss : List (Step F O L P V H)) (es : List Event) → InAtoms ss → Tied (orders o l p v h ss) es → SomePut (row_of o l p v h f) es → Accepted o l p v h f ss es
   put_found f [] [] a t q = absurd q
@@ -230,12 +208,12 @@ module _ (F : Type 0) {O L P V H : Type 0} (o : O → ℕ) (l : L → ℕ) (p : 
       let w = in_atoms s.call (row_of o l p v h f) a.0 (subst (λ (x : Event). TiedOne d x) q.1 t.0) in
       inl (w.1 ∙ ap call.PutFact (one_fact w.0 f w.2), q)
 
-  pub told : {S : Type 0} (rows : S → List Row) (bounds : S → Limits) (grew : S → Row → S → Type 0) → ((s : S) → Lawful (bounds s) (rows s))
-      → (ss : List (Step F O L P V H)) {es : List Event} {ps : List Phase} {s t : S} → Trace rows bounds grew (orders o l p v h ss) es ps s t → rows s ≡ [] → ToldInAtoms o l p v h ss es (rows t)
-  told rows bounds grew lawful ss {es = es} tr empty one d atoms f =
+  pub told : {S : Type 0} (M : Meaning S) → ((s : S) → Lawful (M.bounds s) (M.rows s))
+      → (ss : List (Step F O L P V H)) {es : List Event} {ps : List Phase} {s t : S} → Trace M (orders o l p v h ss) es ps s t → M.rows s ≡ [] → ToldInAtoms o l p v h ss es (M.rows t)
+  told M lawful ss {es = es} tr empty one d atoms f =
       let r : Row = row_of o l p v h f in
-      let holds = (promised rows bounds grew lawful tr empty one d).0 r in (
-        (λ m. ⊎_elim (λ k. absurd (has_none r k)) (λ q. put_found f ss es atoms (trace_tied rows bounds grew tr) q)
+      let holds = (promised M lawful tr empty one d).0 r in (
+        (λ m. ⊎_elim (λ k. absurd (has_none r k)) (λ q. put_found f ss es atoms (trace_tied M tr) q)
             (was_put r [] es (complete_below 18 program program_stratified (Among (accepted es)) r (fact_relation f) (holds.0 m)))),
         (λ a. holds.1 (complete_keeps program (Among (accepted es)) r (put_accepted f [] ss es a))),
       )

@@ -7,14 +7,14 @@ use Rattle.rows.specs.declared.answer.Outcome.{Outcome}
 use Rattle.rows.specs.declared.answer.Outcome.TheVariants.{Held, Added}
 use Rattle.rows.specs.declared.answer.TableFault.TheVariants.{NotAdmissible, Full}
 use Rattle.rows.specs.Rows.{has, insert, admissible}
-use Rattle.rows.specs.Tables.{add_answer, full, Lawful}
+use Rattle.rows.specs.Tables.{Meaning, add_answer, full, Lawful}
 use Rattle.rows.proofs.Sets.{insert_held}
 use Rattle.datalog.specs.Contents.{Among}
 use Rattle.datalog.proofs.Truths.{decide}
 use Rattle.datalog.proofs.Closes.{insert_cases, insert_keeps, insert_here}
 use Rattle.datalog.proofs.Engine.{complete_keeps, has_here, has_there, has_cons, has_none}
-use Rattle.output.specs.declared.progress.Progress.{Progress}
-use Rattle.output.specs.declared.progress.Progress.TheVariants.{Finished, Spent}
+use Rattle.datalog.specs.declared.progress.Progress.{Progress}
+use Rattle.datalog.specs.declared.progress.Progress.TheVariants.{Finished, Spent}
 use Rattle.output.specs.Program.{program}
 use Rattle.output.specs.Completion.{Completed, Missing, Adds}
 use Rattle.output.proofs.Completing.{adds_append, adds_completed}
@@ -45,28 +45,16 @@ begins_more (x ∷ es) e = ap (λ n. begun_by x + n) (begins_more es e) ∙ sym 
 
 -- Done was reached by the last event, or before it.
 done_either : (x : Event) (A B : Type 0) → (A → B) → or_done x A → or_done x B
-done_either NotMade A B f d = f d
-done_either (Began a) A B f d = f d
-done_either (Put r a) A B f d = f d
-done_either Started A B f d = f d
-done_either (Advanced b a) A B f d = f d
 done_either (Settled (Ok u)) A B f d = tt
-done_either (Settled (Err x)) A B f d = f d
-done_either (Read q a) A B f d = f d
+done_either _ A B f d = f d
 
 reached_more : (es : List Event) (e : Event) → reached (es ++ e ∷ []) → or_done e (reached es)
 reached_more [] e d = d
 reached_more (x ∷ es) e d = swap x e (reached es) (done_either x (reached (es ++ e ∷ [])) (or_done e (reached es)) (reached_more es e) d)
   where
     swap : (x e : Event) (D : Type 0) → or_done x (or_done e D) → or_done e (or_done x D)
-    swap x NotMade D d = d
-    swap x (Began a) D d = d
-    swap x (Put r a) D d = d
-    swap x Started D d = d
-    swap x (Advanced b a) D d = d
     swap x (Settled (Ok u)) D d = tt
-    swap x (Settled (Err f)) D d = d
-    swap x (Read q a) D d = d
+    swap x _ D d = d
 
 reads_more : (table : List Row) (es : List Event) (e : Event) → ReadsRight table es → ReadRight table e → ReadsRight table (es ++ e ∷ [])
 reads_more table [] e rs r = (r, tt)
@@ -80,12 +68,12 @@ module _ (m : Limits) (c : List Row) (n : ℕ) (r : Row) where
 
   tells : (o : Outcome) (g a b f : Bool)
       → ◌≡◌ {A = Result Outcome RunFault} (Ok o) (cond g (Err NotFact) (passed n (cond a (cond b (Ok Held) (cond f (Err Full) (Ok Added))) (Err NotAdmissible)))) → (g ≡ false) × Tells o b
-  tells o true a b f e = absurd (let z : ◌≡◌ {A = ℕ} 0 1 = cc in omega arith)
-  tells o false false b f e = absurd (let z : ◌≡◌ {A = ℕ} 0 1 = cc in omega arith)
+  tells o true a b f e = cc
+  tells o false false b f e = cc
   tells Held false true true f e = (refl, refl)
-  tells Added false true true f e = absurd (let z : ◌≡◌ {A = ℕ} 0 1 = cc in omega arith)
-  tells o false true false true e = absurd (let z : ◌≡◌ {A = ℕ} 0 1 = cc in omega arith)
-  tells Held false true false false e = absurd (let z : ◌≡◌ {A = ℕ} 0 1 = cc in omega arith)
+  tells Added false true true f e = cc
+  tells o false true false true e = cc
+  tells Held false true false false e = cc
   tells Added false true false false e = (refl, refl)
 
   put_tells : (o : Outcome) → Ok o ≡ put_answer m c n r → (r.relation < 18) × Tells o (has c r)
@@ -155,23 +143,23 @@ module _ {S : Type 0} (rows : S → List Row) (grew : S → Row → S → Type 0
       )
 
 -- What the loop over a script keeps.
-module _ {S : Type 0} (rows : S → List Row) (bounds : S → Limits) (grew : S → Row → S → Type 0) (lawful : (s : S) → Lawful (bounds s) (rows s)) where
+module _ {S : Type 0} (M : Meaning S) (lawful : (s : S) → Lawful (M.bounds s) (M.rows s)) where
   -- no read was made, so that all of them are right in any table
   abbrev ReadsAny : List Event → Type 0
   ReadsAny es = (table : List Row) → ReadsRight table es
 
   -- the table has the facts accepted, and nothing more
   abbrev Facts : List Event → S → Type 0
-  Facts es t = (rows t ≡ accepted es) × (additions es ≡ 0) × (¬ reached es) × ReadsAny es
+  Facts es t = (M.rows t ≡ accepted es) × (additions es ≡ 0) × (¬ reached es) × ReadsAny es
 
   -- from a table that had the facts accepted, as many missing rows were added as were reported
   abbrev Ran : List Event → S → Type 0
-  Ran es t = (s : S) × (rows s ≡ accepted es) × Adds rows grew (additions es) s t
+  Ran es t = (s : S) × (M.rows s ≡ accepted es) × Adds M.rows M.grew (additions es) s t
 
   abbrev One : List Event → Phase → S → Type 0
   One es (Phase.filling n) t = Facts es t
   One es Phase.running t = Ran es t × (¬ reached es) × ReadsAny es
-  One es Phase.done t = Ran es t × ((r : Row) → ¬ Missing (rows t) r) × ReadsRight (rows t) es
+  One es Phase.done t = Ran es t × ((r : Row) → ¬ Missing (M.rows t) r) × ReadsRight (M.rows t) es
   One es Phase.none t = ⊥
 
   abbrev Few : List Event → List Phase → S → Type 0
@@ -185,6 +173,12 @@ module _ {S : Type 0} (rows : S → List Row) (bounds : S → Limits) (grew : S 
   -- two begins stay two
   many : (es : List Event) (e : Event) (ps : List Phase) (t : S) → 2 ≤ begins es → Kept (es ++ e ∷ []) ps t
   many es e ps t h = inl (let b = begins_more es e in omega arith)
+
+  -- an event that adds nothing and accepts no fact
+  ran_more : (es : List Event) (e : Event) (t : S) → Ran es t → accept e (accepted es) ≡ accepted es → reported e ≡ 0 → Ran (es ++ e ∷ []) t
+  ran_more es e t r same nothing =
+      let z : additions (es ++ e ∷ []) ≡ additions es = (let a = additions_more es e in omega arith) in
+      (r.0, r.1 ∙ sym (accepted_more [] es e ∙ same), subst (λ n. Adds M.rows M.grew n r.0 t) (sym z) r.2)
 
   -- an event that tells nothing new
   module _ (es : List Event) (e : Event) (same : (facts : List Row) → accept e facts ≡ facts) (nothing : reported e ≡ 0) (none-begun : begun_by e ≡ 0)
@@ -201,13 +195,10 @@ module _ {S : Type 0} (rows : S → List Row) (bounds : S → Limits) (grew : S 
     same_facts : (t : S) → Facts es t → Facts (es ++ e ∷ []) t
     same_facts t f = (f.0 ∙ sym same_accepted, same_additions ∙ f.1, λ d. f.2 (not_done (reached_more es e d)), λ table. reads_more table es e (f.3 table) (reads table))
 
-    same_ran : (t : S) → Ran es t → Ran (es ++ e ∷ []) t
-    same_ran t r = (r.0, r.1 ∙ sym same_accepted, subst (λ n. Adds rows grew n r.0 t) (sym same_additions) r.2)
-
     same_one : (p : Phase) (t : S) → One es p t → One (es ++ e ∷ []) p t
     same_one (Phase.filling n) t o = same_facts t o
-    same_one Phase.running t o = (same_ran t o.0, λ d. o.1 (not_done (reached_more es e d)), λ table. reads_more table es e (o.2 table) (reads table))
-    same_one Phase.done t o = (same_ran t o.0, o.1, reads_more (rows t) es e o.2 (reads (rows t)))
+    same_one Phase.running t o = (ran_more es e t o.0 (same (accepted es)) nothing, λ d. o.1 (not_done (reached_more es e d)), λ table. reads_more table es e (o.2 table) (reads table))
+    same_one Phase.done t o = (ran_more es e t o.0 (same (accepted es)) nothing, o.1, reads_more (M.rows t) es e o.2 (reads (M.rows t)))
     same_one Phase.none t o = o
 
     same_alone : FactsAlone (accepted es) → FactsAlone (accepted (es ++ e ∷ []))
@@ -220,6 +211,10 @@ module _ {S : Type 0} (rows : S → List Row) (bounds : S → Limits) (grew : S 
 
     quiet : (ps : List Phase) (t : S) → Kept es ps t → Kept (es ++ e ∷ []) ps t
     quiet ps t k = ⊎_elim (many es e ps t) (λ v. inr (same_alone v.0, same_few ps t v.1)) k
+
+  -- an event of the one run, by what it makes of it
+  one_more : (es : List Event) (e : Event) (p : Phase) (u : S) → begins es ≡ 1 → begun_by e ≡ 0 → FactsAlone (accept e (accepted es)) → One (es ++ e ∷ []) p u → Kept (es ++ e ∷ []) (p ∷ []) u
+  one_more es e p u b none-begun alone o = inr (subst FactsAlone (sym (accepted_more [] es e)) alone, ((let m = begins_more es e in omega arith), o))
 
   -- a begin that is accepted
   begin_kept : (es : List Event) (u : Unit {0}) (ps : List Phase) (t : S) → Kept es ps t → Kept (es ++ Began (Ok u) ∷ []) (ps ++ Phase.filling 0 ∷ []) t
@@ -246,31 +241,23 @@ module _ {S : Type 0} (rows : S → List Row) (bounds : S → Limits) (grew : S 
   alone_more facts r alone l s h = ⊎_elim (λ e. subst (λ (z : Row). z.relation < 18) e l) (λ k. alone s k) (insert_cases r s facts h)
 
   put_ok : (es : List Event) (r : Row) (o : Outcome) (n m : ℕ) (t u : S) → begins es ≡ 1 → FactsAlone (accepted es) → Facts es t → r.relation < 18
-      → rows u ≡ insert r (accepted es) → Kept (es ++ Put r (Ok o) ∷ []) (Phase.filling m ∷ []) u
+      → M.rows u ≡ insert r (accepted es) → Kept (es ++ Put r (Ok o) ∷ []) (Phase.filling m ∷ []) u
   put_ok es r o n m t u b alone f l is =
       let e : Event = Put r (Ok o) in
-      let acc = accepted_more [] es e in
-      let bb = begins_more es e in
-      inr (
-        subst FactsAlone (sym acc) (alone_more (accepted es) r alone l),
-        (
-          omega arith,
-          (
-            is ∙ sym acc,
-            (let a = additions_more es e in let z = f.1 in omega arith),
-            (λ d. f.2 (reached_more es e d)),
-            λ table. reads_more table es e (f.3 table) tt,
-          ),
-        ),
+      one_more es e (Phase.filling m) u b refl (alone_more (accepted es) r alone l) (
+        is ∙ sym (accepted_more [] es e),
+        (let a = additions_more es e in let z = f.1 in omega arith),
+        (λ d. f.2 (reached_more es e d)),
+        λ table. reads_more table es e (f.3 table) tt,
       )
 
   put_kept : (es : List Event) (r : Row) (a : Result Outcome RunFault) (n m : ℕ) (t u : S) → begins es ≡ 1 → FactsAlone (accepted es) → Facts es t
-      → Putting rows bounds grew t n r a u m → Kept (es ++ Put r a ∷ []) (Phase.filling m ∷ []) u
+      → Putting M t n r a u m → Kept (es ++ Put r a ∷ []) (Phase.filling m ∷ []) u
   put_kept es r (Ok Held) n m t u b alone f p =
-      let k = put_tells (bounds t) (rows t) n r Held p.answer in
-      put_ok es r Held n m t u b alone f k.0 (p.after ∙ sym (insert_held r (rows t) (lawful t).ascending k.1) ∙ ap (insert r) f.0)
+      let k = put_tells (M.bounds t) (M.rows t) n r Held p.answer in
+      put_ok es r Held n m t u b alone f k.0 (p.after ∙ sym (insert_held r (M.rows t) (lawful t).ascending k.1) ∙ ap (insert r) f.0)
   put_kept es r (Ok Added) n m t u b alone f p =
-      let k = put_tells (bounds t) (rows t) n r Added p.answer in
+      let k = put_tells (M.bounds t) (M.rows t) n r Added p.answer in
       put_ok es r Added n m t u b alone f k.0 (p.after ∙ ap (insert r) f.0)
   put_kept es r (Err x) n m t u b alone f p =
       let e : Event = Put r (Err x) in
@@ -278,7 +265,7 @@ module _ {S : Type 0} (rows : S → List Row) (bounds : S → Limits) (grew : S 
       quiet es e (λ facts. refl) refl refl (λ d. d) (λ table. tt) (Phase.filling m ∷ []) u (inr (alone, (b, g)))
 
   -- an advance, by its answer
-  advance_adds : (budget : ℕ) (t u : S) (a : Result Progress RunFault) → Advancing rows bounds grew budget t a u → Adds rows grew (of_advance a) t u
+  advance_adds : (budget : ℕ) (t u : S) (a : Result Progress RunFault) → Advancing M budget t a u → Adds M.rows M.grew (of_advance a) t u
   advance_adds budget t u (Ok (Finished n)) h = h.1
   advance_adds budget t u (Ok (Spent n)) h = h.1
   advance_adds budget t u (Err NotEmpty) h = absurd h
@@ -288,73 +275,35 @@ module _ {S : Type 0} (rows : S → List Row) (bounds : S → Limits) (grew : S 
   advance_adds budget t u (Err (Stopped x)) h = h.1
 
   advance_kept : (es : List Event) (budget : ℕ) (a : Result Progress RunFault) (t u : S) → begins es ≡ 1 → FactsAlone (accepted es) → One es Phase.running t
-      → Advancing rows bounds grew budget t a u → Kept (es ++ Advanced budget a ∷ []) (Phase.running ∷ []) u
+      → Advancing M budget t a u → Kept (es ++ Advanced budget a ∷ []) (Phase.running ∷ []) u
   advance_kept es budget a t u b alone o h =
       let e : Event = Advanced budget a in
-      let acc = accepted_more [] es e in
-      let bb = begins_more es e in
       let ran = o.0 in
-      inr (
-        subst FactsAlone (sym acc) alone,
-        (
-          omega arith,
-          (
-            (ran.0, ran.1 ∙ sym acc, subst (λ n. Adds rows grew n ran.0 u) (sym (additions_more es e)) (adds_append rows grew ran.2 (advance_adds budget t u a h))),
-            (λ d. o.1 (reached_more es e d)),
-            λ table. reads_more table es e (o.2 table) tt,
-          ),
-        ),
+      one_more es e Phase.running u b refl alone (
+        (ran.0, ran.1 ∙ sym (accepted_more [] es e), subst (λ n. Adds M.rows M.grew n ran.0 u) (sym (additions_more es e)) (adds_append M.rows M.grew ran.2 (advance_adds budget t u a h))),
+        (λ d. o.1 (reached_more es e d)),
+        λ table. reads_more table es e (o.2 table) tt,
       )
 
   start_kept : (es : List Event) (n : ℕ) (t : S) → begins es ≡ 1 → FactsAlone (accepted es) → Facts es t → Kept (es ++ Started ∷ []) (Phase.running ∷ []) t
   start_kept es n t b alone f =
       quiet es Started (λ facts. refl) refl refl (λ d. d) (λ table. tt) (Phase.running ∷ []) t
-      (inr (alone, (b, ((t, f.0, subst (λ k. Adds rows grew k t t) (sym f.1) Adds.none), f.2, f.3))))
+      (inr (alone, (b, ((t, f.0, subst (λ k. Adds M.rows M.grew k t t) (sym f.1) Adds.none), f.2, f.3))))
 
-  settle_kept : (es : List Event) (u : Unit {0}) (t : S) → begins es ≡ 1 → FactsAlone (accepted es) → One es Phase.running t → ((r : Row) → ¬ Missing (rows t) r)
+  settle_kept : (es : List Event) (u : Unit {0}) (t : S) → begins es ≡ 1 → FactsAlone (accepted es) → One es Phase.running t → ((r : Row) → ¬ Missing (M.rows t) r)
       → Kept (es ++ Settled (Ok u) ∷ []) (Phase.done ∷ []) t
   settle_kept es u t b alone o full =
       let e : Event = Settled (Ok u) in
-      let acc = accepted_more [] es e in
-      let bb = begins_more es e in
-      let aa = additions_more es e in
-      let z : additions es ≡ additions (es ++ e ∷ []) = omega arith in
-      let ran = o.0 in
-      inr (
-        subst FactsAlone (sym acc) alone,
-        (
-          omega arith,
-          (
-            (ran.0, ran.1 ∙ sym acc, subst (λ n. Adds rows grew n ran.0 t) z ran.2),
-            full,
-            reads_more (rows t) es e (o.2 (rows t)) tt,
-          ),
-        ),
-      )
+      one_more es e Phase.done t b refl alone (ran_more es e t o.0 refl refl, full, reads_more (M.rows t) es e (o.2 (M.rows t)) tt)
 
-  read_kept : (es : List Event) (q : Row) (a : Rattle.std.specs.declared.option.Option.Option Row) (t : S) → begins es ≡ 1 → FactsAlone (accepted es) → One es Phase.done t → a ≡ read_answer (rows t) q
+  read_kept : (es : List Event) (q : Row) (a : Rattle.std.specs.declared.option.Option.Option Row) (t : S) → begins es ≡ 1 → FactsAlone (accepted es) → One es Phase.done t → a ≡ read_answer (M.rows t) q
       → Kept (es ++ Read q a ∷ []) (Phase.done ∷ []) t
   read_kept es q a t b alone o is =
       let e : Event = Read q a in
-      let acc = accepted_more [] es e in
-      let bb = begins_more es e in
-      let aa = additions_more es e in
-      let z : additions es ≡ additions (es ++ e ∷ []) = omega arith in
-      let ran = o.0 in
-      inr (
-        subst FactsAlone (sym acc) alone,
-        (
-          omega arith,
-          (
-            (ran.0, ran.1 ∙ sym acc, subst (λ n. Adds rows grew n ran.0 t) z ran.2),
-            o.1,
-            reads_more (rows t) es e o.2 is,
-          ),
-        ),
-      )
+      one_more es e Phase.done t b refl alone (ran_more es e t o.0 refl refl, o.1, reads_more (M.rows t) es e o.2 is)
 
   -- a call on the one run
-  one_kept : (es : List Event) (p q : Phase) (d : Deed) (e : Event) (t u : S) → begins es ≡ 1 → FactsAlone (accepted es) → One es p t → Act rows bounds grew p t d e q u
+  one_kept : (es : List Event) (p q : Phase) (d : Deed) (e : Event) (t u : S) → begins es ≡ 1 → FactsAlone (accepted es) → One es p t → Act M p t d e q u
       → Kept (es ++ e ∷ []) (q ∷ []) u
   one_kept es p q d e t u b alone o (Act.not_made x) = quiet es NotMade (λ facts. refl) refl refl (λ d. d) (λ table. tt) (p ∷ []) t (inr (alone, (b, o)))
   one_kept es p q d e t u b alone o (Act.puts n m r a put) = put_kept es r a n m t u b alone o put
@@ -365,33 +314,33 @@ module _ {S : Type 0} (rows : S → List Row) (bounds : S → Limits) (grew : S 
   one_kept es p q d e t u b alone o (Act.reads r a is) = read_kept es r a t b alone o is
 
   -- a call on no run changes nothing
-  none_kept : (es : List Event) (ps : List Phase) (q : Phase) (d : Deed) (e : Event) (t u : S) → Kept es ps t → Act rows bounds grew Phase.none t d e q u → Kept (es ++ e ∷ []) ps u
+  none_kept : (es : List Event) (ps : List Phase) (q : Phase) (d : Deed) (e : Event) (t u : S) → Kept es ps t → Act M Phase.none t d e q u → Kept (es ++ e ∷ []) ps u
   none_kept es ps q d e t u k (Act.not_made x) = quiet es NotMade (λ facts. refl) refl refl (λ d. d) (λ table. tt) ps t k
 
-  act_kept : (es : List Event) (ps : List Phase) (i : ℕ) (q : Phase) (d : Deed) (e : Event) (t u : S) → Kept es ps t → Act rows bounds grew (at ps i) t d e q u → Kept (es ++ e ∷ []) (set ps i q) u
+  act_kept : (es : List Event) (ps : List Phase) (i : ℕ) (q : Phase) (d : Deed) (e : Event) (t u : S) → Kept es ps t → Act M (at ps i) t d e q u → Kept (es ++ e ∷ []) (set ps i q) u
   act_kept es ps i q d e t u (inl h) a = many es e (set ps i q) u h
   act_kept es [] i q d e t u (inr v) a = none_kept es [] q d e t u (inr v) a
   act_kept es (p ∷ []) zero q d e t u (inr (alone, (b, o))) a = one_kept es p q d e t u b alone o a
   act_kept es (p ∷ []) (suc i) q d e t u (inr v) a = none_kept es (p ∷ []) q d e t u (inr v) a
   act_kept es (p ∷ p' ∷ ps) i q d e t u (inr (alone, f)) a = absurd f
 
-  turn_kept : (es : List Event) (ps qs : List Phase) (o : Order) (e : Event) (t u : S) → Kept es ps t → Turn rows bounds grew ps t o e qs u → Kept (es ++ e ∷ []) qs u
+  turn_kept : (es : List Event) (ps qs : List Phase) (o : Order) (e : Event) (t u : S) → Kept es ps t → Turn M ps t o e qs u → Kept (es ++ e ∷ []) qs u
   turn_kept es ps qs o e t u k (Turn.began i v empty) = begin_kept es v ps t k
   turn_kept es ps qs o e t u k (Turn.not_begun i full) = quiet es (Began (Err NotEmpty)) (λ facts. refl) refl refl (λ d. d) (λ table. tt) ps t k
   turn_kept es ps qs o e t u k (Turn.acts i d q a) = act_kept es ps i q d e t u k a
 
-  pub trace_kept : {os : List Order} {es : List Event} {ps : List Phase} {s t : S} → Trace rows bounds grew os es ps s t → rows s ≡ [] → Kept es ps t
+  pub trace_kept : {os : List Order} {es : List Event} {ps : List Phase} {s t : S} → Trace M os es ps s t → M.rows s ≡ [] → Kept es ps t
   trace_kept Trace.opened empty = inr ((λ r h. absurd (has_none r h)), (refl, (empty, refl, (λ d. d), λ table. tt)))
   trace_kept (Trace.then {es = es} {ps = ps} {qs = qs} {t = t} {u = u} o e before turn) empty = turn_kept es ps qs o e t u (trace_kept before empty) turn
 
-  promised_few : (es : List Event) (ps : List Phase) (t : S) → FactsAlone (accepted es) → Few es ps t → Promised es (rows t)
+  promised_few : (es : List Event) (ps : List Phase) (t : S) → FactsAlone (accepted es) → Few es ps t → Promised es (M.rows t)
   promised_few es [] t alone (b, f) one d = absurd (omega arith)
   promised_few es (Phase.filling n ∷ []) t alone (b, f) one d = absurd (f.2 d)
   promised_few es (Phase.running ∷ []) t alone (b, o) one d = absurd (o.1 d)
   promised_few es (Phase.done ∷ []) t alone (b, (ran, full, reads)) one d =
       let facts = ran.1 in (
-        (λ r. subst (λ (c : List Row). Among (rows t) r ↔ Completed c r) facts (full_table rows grew ran.2 full r)),
-        subst (λ (c : List Row). Number (Missing c) (additions es)) facts (adds_number rows grew ran.2 full),
+        (λ r. subst (λ (c : List Row). Among (M.rows t) r ↔ Completed c r) facts (full_table M.rows M.grew ran.2 full r)),
+        subst (λ (c : List Row). Number (Missing c) (additions es)) facts (adds_number M.rows M.grew ran.2 full),
         reads,
         loan_errors_compared (accepted es) alone,
         subset_errors_compared (accepted es) alone,
@@ -399,6 +348,6 @@ module _ {S : Type 0} (rows : S → List Row) (bounds : S → Limits) (grew : S 
   promised_few es (Phase.none ∷ []) t alone (b, o) one d = absurd o
   promised_few es (p ∷ q ∷ ps) t alone f one d = absurd f
 
-  pub promised : {os : List Order} {es : List Event} {ps : List Phase} {s t : S} → Trace rows bounds grew os es ps s t → rows s ≡ [] → Promised es (rows t)
+  pub promised : {os : List Order} {es : List Event} {ps : List Phase} {s t : S} → Trace M os es ps s t → M.rows s ≡ [] → Promised es (M.rows t)
   promised {es = es} {ps = ps} {t = t} tr empty one d =
       ⊎_elim (λ (h : 2 ≤ begins es). absurd (omega arith)) (λ v. promised_few es ps t v.0 v.1 one d) (trace_kept tr empty)

@@ -2,8 +2,8 @@
 use Rattle.std.specs.Prelude.{ℕ, ◌+◌, List, [], ◌∷◌, Ok, Err, Result}
 use Rattle.rows.specs.declared.row.Row.{Row}
 use Rattle.rows.specs.Rows.{insert}
-use Rattle.output.specs.declared.progress.Progress.{Progress}
-use Rattle.output.specs.declared.progress.Progress.TheVariants.{Finished, Spent}
+use Rattle.datalog.specs.declared.progress.Progress.{Progress}
+use Rattle.datalog.specs.declared.progress.Progress.TheVariants.{Finished, Spent}
 use Rattle.analysis.specs.declared.fault.RunFault.{RunFault}
 use Rattle.analysis.specs.declared.fault.RunFault.TheVariants.{NotEmpty, NotFact, RowsMissing, Refused, Stopped}
 use Rattle.runs.specs.declared.script.Event.{Event}

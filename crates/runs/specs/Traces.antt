@@ -1,9 +1,8 @@
 -- Scripts played: each call made by its contract, on the state that its run is in.
-use Rattle.std.specs.Prelude.{◌≡◌, ℕ, List, [], ◌∷◌, ◌++◌, Ok, Err, Option, Result, slice_index_or, slice_set}
+use Rattle.std.specs.Prelude.{◌≡◌, ℕ, List, [], ◌∷◌, ◌++◌, Some, None, Ok, Err, Option, Result, slice_index_or, slice_set}
 use Rattle.rows.specs.declared.row.Row.{Row}
-use Rattle.rows.specs.declared.answer.Limits.{Limits}
 use Rattle.rows.specs.declared.answer.Outcome.{Outcome}
-use Rattle.output.specs.declared.progress.Progress.{Progress}
+use Rattle.datalog.specs.declared.progress.Progress.{Progress}
 use Rattle.output.specs.Completion.{Missing}
 use Rattle.analysis.specs.declared.fault.RunFault.{RunFault}
 use Rattle.analysis.specs.declared.fault.RunFault.TheVariants.{NotEmpty, RowsMissing}
@@ -16,6 +15,7 @@ use Rattle.runs.specs.declared.script.Event.{Event}
 use Rattle.runs.specs.declared.script.Event.TheVariants.{NotMade, Began, Put, Started, Advanced, Settled, Read}
 use Rattle.runs.specs.declared.script.State.{State}
 use Rattle.runs.specs.declared.script.State.TheVariants as state
+use Rattle.rows.specs.Tables.{Meaning}
 
 -- A call in rows: a fact put in atoms is put as its row.
 pub data Deed : Type 0 where
@@ -53,7 +53,6 @@ abbrev pub phase : State → Phase
 phase (state.Filling f) = Phase.filling f.facts
 phase (state.Running r) = Phase.running
 phase (state.Done d) = Phase.done
-phase state.Moved = Phase.none
 
 abbrev pub at : List Phase → ℕ → Phase
 at ps i = slice_index_or ps i Phase.none
@@ -91,21 +90,21 @@ OnRun (Deed.advance b) = Unit {0}
 OnRun Deed.settle = Unit {0}
 OnRun (Deed.read q) = Unit {0}
 
-module _ {S : Type 0} (rows : S → List Row) (bounds : S → Limits) (grew : S → Row → S → Type 0) where
+module _ {S : Type 0} (M : Meaning S) where
   -- One call on a run: the state of the run and the table before it, the event, and both after it.
   pub data Act : Phase → S → Deed → Event → Phase → S → Type 0 where
     not_made : {q : Phase} {t : S} {d : Deed} → Barred d q → Act q t d NotMade q t
-    puts : {t u : S} (n m : ℕ) (r : Row) (a : Result Outcome RunFault) → Putting rows bounds grew t n r a u m → Act (Phase.filling n) t (Deed.put r) (Put r a) (Phase.filling m) u
+    puts : {t u : S} (n m : ℕ) (r : Row) (a : Result Outcome RunFault) → Putting M t n r a u m → Act (Phase.filling n) t (Deed.put r) (Put r a) (Phase.filling m) u
     starts : {t : S} (n : ℕ) → Act (Phase.filling n) t Deed.start Started Phase.running t
-    advances : {t u : S} (b : ℕ) (a : Result Progress RunFault) → Advancing rows bounds grew b t a u → bounds u ≡ bounds t → Act Phase.running t (Deed.advance b) (Advanced b a) Phase.running u
-    settles : {t : S} (u : Unit {0}) → ((r : Row) → ¬ Missing (rows t) r) → Act Phase.running t Deed.settle (Settled (Ok u)) Phase.done t
-    not_settled : {t : S} → ((r : Row) × Missing (rows t) r) → Act Phase.running t Deed.settle (Settled (Err RowsMissing)) Phase.running t
-    reads : {t : S} (q : Row) (a : Option Row) → a ≡ read_answer (rows t) q → Act Phase.done t (Deed.read q) (Read q a) Phase.done t
+    advances : {t u : S} (b : ℕ) (a : Result Progress RunFault) → Advancing M b t a u → M.bounds u ≡ M.bounds t → Act Phase.running t (Deed.advance b) (Advanced b a) Phase.running u
+    settles : {t : S} (u : Unit {0}) → ((r : Row) → ¬ Missing (M.rows t) r) → Act Phase.running t Deed.settle (Settled (Ok u)) Phase.done t
+    not_settled : {t : S} → ((r : Row) × Missing (M.rows t) r) → Act Phase.running t Deed.settle (Settled (Err RowsMissing)) Phase.running t
+    reads : {t : S} (q : Row) (a : Option Row) → a ≡ read_answer (M.rows t) q → Act Phase.done t (Deed.read q) (Read q a) Phase.done t
 
   -- One call of a script: a begin that is accepted makes one run more, and any other call is made on the run that it names.
   pub data Turn : List Phase → S → Order → Event → List Phase → S → Type 0 where
-    began : {ps : List Phase} {t : S} (i : ℕ) (u : Unit {0}) → rows t ≡ [] → Turn ps t (record { run = i; deed = Deed.begin }) (Began (Ok u)) (ps ++ Phase.filling 0 ∷ []) t
-    not_begun : {ps : List Phase} {t : S} (i : ℕ) → ¬ (rows t ≡ []) → Turn ps t (record { run = i; deed = Deed.begin }) (Began (Err NotEmpty)) ps t
+    began : {ps : List Phase} {t : S} (i : ℕ) (u : Unit {0}) → M.rows t ≡ [] → Turn ps t (record { run = i; deed = Deed.begin }) (Began (Ok u)) (ps ++ Phase.filling 0 ∷ []) t
+    not_begun : {ps : List Phase} {t : S} (i : ℕ) → ¬ (M.rows t ≡ []) → Turn ps t (record { run = i; deed = Deed.begin }) (Began (Err NotEmpty)) ps t
     acts : {ps : List Phase} {t u : S} {e : Event} (i : ℕ) (d : Deed) (q : Phase) → Act (at ps i) t d e q u → Turn ps t (record { run = i; deed = d }) e (slice_set ps i q) u
 
   -- Calls one after another, in their order, from one table to another.
@@ -114,10 +113,15 @@ module _ {S : Type 0} (rows : S → List Row) (bounds : S → Limits) (grew : S 
     then : {os : List Order} {es : List Event} {ps qs : List Phase} {s t u : S} (o : Order) (e : Event)
         → Trace os es ps s t → Turn ps t o e qs u → Trace (os ++ o ∷ []) (es ++ e ∷ []) qs s u
 
-abbrev pub phases : List State → List Phase
+-- the phases of the player's runs; a place whose state is moved out has none
+abbrev pub phase_at : Option State → Phase
+phase_at (Some s) = phase s
+phase_at None = Phase.none
+
+abbrev pub phases : List (Option State) → List Phase
 phases [] = []
-phases (s ∷ ss) = phase s ∷ phases ss
+phases (o ∷ os) = phase_at o ∷ phases os
 
 -- The calls of a script, in their order, each with the event of its place, lead from one table to another.
-abbrev pub Played : {S : Type 0} → (S → List Row) → (S → Limits) → (S → Row → S → Type 0) → List Order → List Event → S → S → Type 0
-Played rows bounds grew os es s t = (ps : List Phase) × Trace rows bounds grew os es ps s t
+abbrev pub Played : {S : Type 0} → Meaning S → List Order → List Event → S → S → Type 0
+Played M os es s t = (ps : List Phase) × Trace M os es ps s t

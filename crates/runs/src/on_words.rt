@@ -19,5 +19,5 @@ pub fn play_on_words<F: FactTypes>(
     ensures { IfOk result (λ log. PromisedOnWords log.items words.old words.new) }
 {
     let mut table = List::make(words, width);
-    play::<F, List>(heap, &mut table, script)
+    play(heap, &mut table, script)
 }

@@ -1,4 +1,4 @@
-// Calls of a run as values, and their answers.
+// Calls of a run as values, and their answers. Values and no closures, since the promise over runs ranges over lists of them.
 use analysis::fault::RunFault;
 use analysis::state::{Done, Filling, Running};
 use atom_puts::fact::Fact;
@@ -8,7 +8,7 @@ use rows::answer::Outcome;
 use rows::row::Row;
 
 // A call with its arguments, but for the state that it is made on.
-#[derive(Drop)]
+#[derive(Clone, Drop)]
 pub enum Call<F: FactTypes> {
     Begin,
     Put(Row),
@@ -20,14 +20,14 @@ pub enum Call<F: FactTypes> {
 }
 
 // A call, and the run that it is made on. Runs are numbered from 0, by the begins that were accepted; a begin is made on none.
-#[derive(Drop)]
+#[derive(Clone, Drop)]
 pub struct Step<F: FactTypes> {
     pub run: usize,
     pub call: Call<F>,
 }
 
 // A call that was made, in rows, with its answer, whole.
-#[derive(Clone, Copy)]
+#[derive(Clone, Copy, PartialEq, Eq, Debug)]
 pub enum Event {
     // The run is not in the state that the call takes, so that no caller can make the call.
     NotMade,
@@ -40,11 +40,9 @@ pub enum Event {
 }
 
 // The state that a run is in.
-#[derive(Drop)]
+#[derive(Drop, PartialEq, Eq, Debug)]
 pub enum State {
     Filling(Filling),
     Running(Running),
     Done(Done),
-    // Moved out for a call, and not yet put back.
-    Moved,
 }

@@ -7,20 +7,21 @@ use Rattle.rows.specs.Quotas.{capped}
 use Rattle.rows.proofs.Addings.{filled_under}
 use Rattle.table.specs.declared.maxima.Maxima.{Maxima}
 use Rattle.table.specs.declared.quota.Quota.{Quota}
+use Rattle.rows.specs.Tables.{Meaning, standing}
 
-module _ {S : Type 0} (rows : S → List Row) (bounds : S → Limits) (grew : S → Row → S → Type 0) (steady : (s : S) (r : Row) (t : S) → grew s r t → bounds t ≡ bounds s) where
+module _ {S : Type 0} (M : Meaning S) (steady : (s : S) (r : Row) (t : S) → M.grew s r t → M.bounds t ≡ M.bounds s) where
   abbrev grown : Quota S → Row → Quota S → Type 0
-  grown q r p = grew q.below r p.below × (p.own ≡ q.own)
+  grown q r p = M.grew q.below r p.below × (p.own ≡ q.own)
 
   abbrev limits : Quota S → Limits
-  limits q = capped q.own.most (bounds q.below)
+  limits q = capped q.own.most (M.bounds q.below)
 
   -- `more` is what stands on the quota
   pub taken_off : (more : Limits → Limits) (below : S) (own : Maxima) (q : Quota S) (rs : List Row) (p : Quota S) (t : S)
       → q.below ≡ below → q.own ≡ own → t ≡ p.below
-      → Filled (λ x. rows x.below) limits grown (more (limits q)) q rs p → Filled rows bounds grew (more (capped own.most (bounds below))) below rs t
+      → Filled (standing (λ x. x.below) M limits grown) (more (limits q)) q rs p → Filled M (more (capped own.most (M.bounds below))) below rs t
   taken_off more below own q rs p t b o e f =
-      let u = filled_under {S = S} {Q = Quota S} rows bounds grew limits grown (λ x. x.below) (λ x r y h. h.0) steady (more (limits q)) q rs p f in
-      subst (λ z. Filled rows bounds grew (more (capped own.most (bounds below))) below rs z) (sym e)
-      (subst (λ (m : Maxima). Filled rows bounds grew (more (capped m.most (bounds below))) below rs p.below) o
-      (subst (λ (s : S). Filled rows bounds grew (more (capped q.own.most (bounds s))) s rs p.below) b u))
+      let u = filled_under {S = S} {Q = Quota S} M limits grown (λ x. x.below) (λ x r y h. h.0) steady (more (limits q)) q rs p f in
+      subst (λ z. Filled M (more (capped own.most (M.bounds below))) below rs z) (sym e)
+      (subst (λ (m : Maxima). Filled M (more (capped m.most (M.bounds below))) below rs p.below) o
+      (subst (λ (s : S). Filled M (more (capped q.own.most (M.bounds s))) s rs p.below) b u))

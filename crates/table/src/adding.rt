@@ -11,8 +11,8 @@ use rows::row::Row;
 
 // Adds each row of a batch in turn, passes over those that the table refuses, and answers how many went in.
 pub fn add_each<T: Table>(t: &mut T, batch: &[Row]) -> usize
-    ensures filled { Filled T.Table.rows T.Table.bounds T.Table.grew (T.Table.bounds t.old) t.old batch.now t.new }
-    ensures added { result ≡ length (taken (T.Table.bounds t.old) (T.Table.rows t.old) batch.now) }
+    ensures filled { Filled T.means (T.means.bounds t.old) t.old batch.now t.new }
+    ensures added { result ≡ length (taken (T.means.bounds t.old) (T.means.rows t.old) batch.now) }
 {
     let mut added = 0;
     for r in batch {
@@ -25,7 +25,7 @@ pub fn add_each<T: Table>(t: &mut T, batch: &[Row]) -> usize
 
 // Adds each row of a batch in turn under a quota, which is then taken off again: the table below, as it then is.
 pub fn add_under<T: Table>(below: T, own: Maxima, batch: &[Row]) -> T
-    ensures { Filled T.Table.rows T.Table.bounds T.Table.grew (capped own.most (T.Table.bounds below)) below batch.now result }
+    ensures { Filled T.means (capped own.most (T.means.bounds below)) below batch.now result }
 {
     let mut quota = Quota::new(below, own);
     let _added = add_each(&mut quota, batch);
@@ -34,7 +34,7 @@ pub fn add_under<T: Table>(below: T, own: Maxima, batch: &[Row]) -> T
 
 // The same under two quotas, one on the other; so a pile of any height.
 pub fn add_under_both<T: Table>(below: T, lower: Maxima, upper: Maxima, batch: &[Row]) -> T
-    ensures { Filled T.Table.rows T.Table.bounds T.Table.grew (capped upper.most (capped lower.most (T.Table.bounds below))) below batch.now result }
+    ensures { Filled T.means (capped upper.most (capped lower.most (T.means.bounds below))) below batch.now result }
 {
     let quota = Quota::new(below, lower);
     let quota = add_under(quota, upper, batch);
@@ -43,7 +43,7 @@ pub fn add_under_both<T: Table>(below: T, lower: Maxima, upper: Maxima, batch: &
 
 // A quota on a table that is lent.
 pub fn add_under_lent<T: Table>(below: &mut T, own: Maxima, batch: &[Row])
-    ensures { Filled T.Table.rows T.Table.bounds T.Table.grew (capped own.most (T.Table.bounds below.old)) below.old batch.now below.new }
+    ensures { Filled T.means (capped own.most (T.means.bounds below.old)) below.old batch.now below.new }
 {
     let _lent = add_under(below, own, batch);
 }
@@ -51,9 +51,5 @@ pub fn add_under_lent<T: Table>(below: &mut T, own: Maxima, batch: &[Row])
 fn went_in(answer: Result<Outcome, TableFault>) -> bool
     ensures { result ≡ went_in answer }
 {
-    match answer {
-        Ok(Outcome::Added) => true,
-        Ok(Outcome::Held) => false,
-        Err(_) => false,
-    }
+    answer == Ok(Outcome::Added)
 }

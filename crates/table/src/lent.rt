@@ -1,5 +1,6 @@
 // A table that is lent is a table, so that a quota can stand on one.
 ghost use Rattle.std.specs.Prelude.{◌≡◌};
+ghost use Rattle.rows.specs.Tables.{standing};
 
 use crate::Table;
 use rows::answer::{Limits, Outcome, TableFault};
@@ -7,15 +8,7 @@ use rows::like::Like;
 use rows::row::Row;
 
 impl<'b, T: Table> Table for &'b mut T {
-    ghost rows = { λ t. T.Table.rows t.now };
-
-    ghost bounds = { λ t. T.Table.bounds t.now };
-
-    ghost grew = { λ s r t. T.Table.grew s.now r t.now × (t.ghost_name ≡ s.ghost_name) };
-
-    ghost steady = { λ s r t g. T.Table.steady s.now r t.now g.0 };
-
-    ghost lawful = { λ t. T.Table.lawful t.now };
+    ghost means = { standing (λ t. t.now) T.means (λ t. T.means.bounds t.now) (λ s r t. T.means.grew s.now r t.now × (t.ghost_name ≡ s.ghost_name)) };
 
     fn add(&mut self, r: Row) -> Result<Outcome, TableFault> {
         (**self).add(r)
@@ -44,4 +37,8 @@ impl<'b, T: Table> Table for &'b mut T {
     fn limits(&self) -> Limits {
         (**self).limits()
     }
+
+    ghost steady = { λ s r t g. T.Table.steady s.now r t.now g.0 };
+
+    ghost lawful = { λ t. T.Table.lawful t.now };
 }

@@ -19,12 +19,12 @@ impl Maxima {
     }
 
     // The maximum of one relation changed; nothing changes at a number that is no relation's.
+    #[tactic(auto, using(std::proofs::lemmas::List::set_past))]
     pub fn limit(&mut self, relation: u32, most: u32)
         ensures { self.new.most ≡ slice_set self.old.most relation most }
     {
-        let at = relation as usize;
         if relation < RELATIONS {
-            self.most[at] = most;
+            self.most[relation as usize] = most;
         }
     }
 
@@ -32,22 +32,17 @@ impl Maxima {
     pub fn of(&self, relation: u32) -> u32
         ensures { result ≡ slice_index self.now.most relation }
     {
-        if relation < RELATIONS {
-            self.most[relation as usize]
-        } else {
-            0
-        }
+        self.most.get(relation as usize).copied().unwrap_or(0)
     }
 
     // Each maximum, or that of others where that is less.
+    #[tactic(auto, using(rows::proofs::Lessers::is_lesser))]
     pub fn lesser(&self, others: &[u32; 40]) -> [u32; 40]
         ensures { result ≡ lesser self.now.most others.now }
     {
         let mut out = *others;
-        for i in 0..40 {
-            if self.most[i] < out[i] {
-                out[i] = self.most[i];
-            }
+        for (i, own) in self.most.iter().enumerate() {
+            out[i] = out[i].min(*own);
         }
         out
     }

@@ -2,6 +2,7 @@
 ghost use Rattle.std.specs.Prelude.{◌≡◌};
 ghost use Rattle.std.proofs.Common.{ap};
 ghost use Rattle.rows.specs.Quotas.{capped};
+ghost use Rattle.rows.specs.Tables.{standing};
 ghost use Rattle.rows.proofs.Lawfuls.{capped_lawful, capped_steady};
 
 use crate::Table;
@@ -35,15 +36,7 @@ impl<T: Table> Quota<T> {
 }
 
 impl<T: Table> Table for Quota<T> {
-    ghost rows = { λ q. T.Table.rows q.below };
-
-    ghost bounds = { λ q. capped q.own.most (T.Table.bounds q.below) };
-
-    ghost grew = { λ q r t. T.Table.grew q.below r t.below × (t.own ≡ q.own) };
-
-    ghost steady = { λ q r t g. capped_steady q.own.most t.own.most (T.Table.bounds q.below) (T.Table.bounds t.below) (ap (λ o. o.most) g.1) (T.Table.steady q.below r t.below g.0) };
-
-    ghost lawful = { λ q. capped_lawful q.own.most (T.Table.bounds q.below) (T.Table.rows q.below) q.own.forty (T.Table.lawful q.below) };
+    ghost means = { standing (λ q. q.below) T.means (λ q. capped q.own.most (T.means.bounds q.below)) (λ q r t. T.means.grew q.below r t.below × (t.own ≡ q.own)) };
 
     fn add(&mut self, r: Row) -> Result<Outcome, TableFault> {
         let m = self.below.limits();
@@ -87,4 +80,8 @@ impl<T: Table> Table for Quota<T> {
             each: self.own.lesser(&m.each),
         }
     }
+
+    ghost steady = { λ q r t g. capped_steady q.own.most t.own.most (T.means.bounds q.below) (T.means.bounds t.below) (ap (λ o. o.most) g.1) (T.Table.steady q.below r t.below g.0) };
+
+    ghost lawful = { λ q. capped_lawful q.own.most (T.means.bounds q.below) (T.means.rows q.below) q.own.forty (T.Table.lawful q.below) };
 }

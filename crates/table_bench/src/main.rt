@@ -7,7 +7,7 @@ use list::List;
 use rows::relation::CFG_EDGE;
 use rows::row::Row;
 use std::env;
-use std::time::{Duration, Instant};
+use std::time::Instant;
 use table::Table;
 
 // Wide enough for the most rows that are timed, and no wider than a bit table may be.
@@ -33,44 +33,38 @@ fn run(rt: &HostRuntime) -> anyhow::Result<()> {
 }
 
 fn row(i: u32) -> Row {
-    Row {
-        relation: CFG_EDGE,
-        a: i / WIDTH,
-        b: i % WIDTH,
-        c: 0,
-    }
+    Row::new(CFG_EDGE, i / WIDTH, i % WIDTH, 0)
 }
 
-fn per_call(spent: Duration, calls: u32) -> u128 {
-    if calls == 0 {
-        0
-    } else {
-        spent.as_nanos() / calls as u128
+// Nanoseconds for each of n calls.
+fn timed<F: FnMut(u32)>(rt: &HostRuntime, n: u32, call: F) -> anyhow::Result<u128>
+    requires { F.IsAlwaysCallable call }
+{
+    let mut call = call;
+    let start = Instant::now(rt)?;
+    for i in 0..n {
+        call(i);
     }
+    let spent = start.elapsed(rt)?.as_nanos();
+    Ok(spent.checked_div(u128::from(n)).unwrap_or(0))
 }
 
 // Adds n rows, then asks for each of them.
 fn time<T: Table>(rt: &HostRuntime, name: &str, table: &mut T, n: u32) -> anyhow::Result<()> {
-    let start = Instant::now(rt)?;
-    for i in 0..n {
+    let add = timed(rt, n, |i| {
         let _ = table.add(row(i));
-    }
-    let add = per_call(start.elapsed(rt)?, n);
-    let start = Instant::now(rt)?;
+    })?;
     let mut found: u32 = 0;
-    for i in 0..n {
-        if table.holds(row(i)) {
-            found = found.saturating_add(1);
-        }
-    }
-    let holds = per_call(start.elapsed(rt)?, n);
-    let start = Instant::now(rt)?;
-    for i in 0..n {
-        if table.next(row(i)).is_some() {
-            found = found.saturating_add(1);
-        }
-    }
-    let next = per_call(start.elapsed(rt)?, n);
+    let holds = timed(
+        rt,
+        n,
+        |i| found = found.saturating_add(u32::from(table.holds(row(i)))),
+    )?;
+    let next = timed(
+        rt,
+        n,
+        |i| found = found.saturating_add(u32::from(table.next(row(i)).is_some())),
+    )?;
     println!(rt;
         "{name}, {n} rows: add {add} ns, holds {holds} ns, next {next} ns, {found} found"
     )?;

@@ -7,41 +7,33 @@ ghost use Rattle.theorems.specs.Cases.{UsedLoan, KilledLoan, MovedThenAccessed, 
 ghost use Rattle.theorems.specs.Definitions.{LeastHas, LeastClosed, LeastBelow, LeastUnique, LeastIsLeast, CompletionHas, CompletionClosed, CompletionLeast, CompletionFacts, CompletionIsOne, CompletionUnique, CompletionOne, CompletedTwice, CompletionKept, OneNumber, LeastListed, CompletionListed, DerivedNumbered, AdditionsNumber};
 
 // Every naive loan error is a location-insensitive one.
-pub fn loan_errors_compared() -> u8
+pub fn loan_errors_compared()
     ensures { LoanErrorsCompared }
-{
-    0
-}
+{}
 
 // So is every naive subset error, where each universal region has a placeholder loan of its own.
-pub fn subset_errors_compared() -> u8
+pub fn subset_errors_compared()
     ensures { SubsetErrorsCompared }
-{
-    0
-}
+{}
 
 // Subset is the unrestricted least set with the rows of equal origins struck.
-pub fn subset_struck() -> u8
+pub fn subset_struck()
     ensures { SubsetStruck }
-{
-    0
-}
+{}
 
 // Of a rule over rows, the least set has the rows, is closed, is below every closed set, is one, and is finite.
-pub fn least_sets() -> u8
+pub fn least_sets()
     ensures has { LeastHas }
     ensures closed { LeastClosed }
     ensures below { LeastBelow }
     ensures unique { LeastUnique }
     ensures least { LeastIsLeast }
     ensures listed { LeastListed }
-{
-    0
-}
+{}
 
 // The completion of any rows: it has them, is closed under each rule, adds no facts, has no more than it must, is the only
 // such set, goes by which rows they are, is complete itself, stays as it is when a row of it is added, and is finite.
-pub fn completions() -> u8
+pub fn completions()
     ensures has { CompletionHas }
     ensures closed { CompletionClosed }
     ensures least { CompletionLeast }
@@ -52,21 +44,17 @@ pub fn completions() -> u8
     ensures twice { CompletedTwice }
     ensures kept { CompletionKept }
     ensures listed { CompletionListed }
-{
-    0
-}
+{}
 
 // There is a number of derived rows, it is one number, and as many are added until none is missing.
-pub fn derived_number() -> u8
+pub fn derived_number()
     ensures some { DerivedNumbered }
     ensures one { OneNumber }
     ensures added { AdditionsNumber }
-{
-    0
-}
+{}
 
 // What is derived of small bodies: exactly these rows.
-pub fn cases_stand() -> u8
+pub fn cases_stand()
     ensures used_loan { UsedLoan }
     ensures killed_loan { KilledLoan }
     ensures moved_then_accessed { MovedThenAccessed }
@@ -79,6 +67,4 @@ pub fn cases_stand() -> u8
     ensures mutual_subset { MutualSubset }
     ensures region_nowhere { RegionNowhere }
     ensures region_live { RegionLive }
-{
-    0
-}
+{}

@@ -1,17 +1,19 @@
 // Making a number, and its meaning as an atom.
 ghost use Rattle.std.specs.Prelude.{◌≡◌};
+ghost use Rattle.std.specs.Option.{ok_or};
 ghost use Rattle.facts.specs.Numbers.{number_of};
 ghost use Rattle.facts.specs.Atoms.{number_made};
 ghost use Rattle.std.proofs.Common.{rules};
 
-use crate::atom::{Atom, FactTypes};
+use crate::atom::{Atom, FactTypes, NoAtom};
 use crate::number::Number;
+use std::marker::PhantomData;
 
 // Numbers from this one on are no atoms.
 const LIMIT: u32 = 65535;
 
 impl Number {
-    // None above 65,534.
+    // None above 65,534. (`then_some` would make the number before the test that its range rests on.)
     pub fn new(value: u32) -> Option<Number>
         ensures { result ≡ number_of value }
     {
@@ -26,6 +28,24 @@ impl Number {
         ensures { result ≡ self.value }
     {
         self.value
+    }
+}
+
+impl From<Number> for u32 {
+    ghost from_gives = { λ x r. r ≡ x.value };
+
+    fn from(x: Number) -> u32 {
+        x.value()
+    }
+}
+
+impl TryFrom<u32> for Number {
+    type Error = NoAtom;
+
+    ghost try_from_gives = { λ n r. r ≡ ok_or (number_of n) (record { number = n }) };
+
+    fn try_from(value: u32) -> Result<Number, NoAtom> {
+        Number::new(value).ok_or(NoAtom { number: value })
     }
 }
 
@@ -49,17 +69,20 @@ impl Atom for Number {
     }
 }
 
-// All five kinds as bare numbers.
-pub struct Numbers;
+// Points of one kind, bare numbers for the other four kinds.
+pub struct Kinds<P>(PhantomData<P>);
 
-impl FactTypes for Numbers {
+impl<P: Atom> FactTypes for Kinds<P> {
     type Origin = Number;
 
     type Loan = Number;
 
-    type Point = Number;
+    type Point = P;
 
     type Variable = Number;
 
     type Path = Number;
 }
+
+// All five kinds as bare numbers.
+pub type Numbers = Kinds<Number>;

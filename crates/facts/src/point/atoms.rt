@@ -4,12 +4,12 @@ ghost use Rattle.facts.specs.Points.{point_at, point_number, point_of};
 ghost use Rattle.std.proofs.Common.{rules};
 ghost use Rattle.facts.specs.Atoms.{point_back};
 
-use crate::atom::{Atom, FactTypes};
-use crate::number::Number;
+use crate::atom::Atom;
+use crate::number::atoms::Kinds;
 use crate::point::Point;
 
 impl Point {
-    // None unless the block is at most 1,022, the statement at most 31 and the half 0 or 1.
+    // None unless the block is at most 1,022, the statement at most 31 and the half 0 or 1. (As at a number, the test comes first.)
     pub fn new(block: u32, statement: u32, half: u32) -> Option<Point>
         ensures { result ≡ point_at block statement half }
     {
@@ -69,16 +69,4 @@ impl Atom for Point {
 }
 
 // Program points for the points, bare numbers for the other kinds.
-pub struct Program;
-
-impl FactTypes for Program {
-    type Origin = Number;
-
-    type Loan = Number;
-
-    type Point = Point;
-
-    type Variable = Number;
-
-    type Path = Number;
-}
+pub type Program = Kinds<Point>;

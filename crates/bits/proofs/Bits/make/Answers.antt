@@ -1,71 +1,33 @@
-use Rattle.std.proofs.Common.{◌≡◌, ◌<◌, true, false, [], length, set, refl, ap, ◌∙◌, arith}
-use Rattle.std.proofs.lemmas.List.Edits.{fill_none, fill_more}
+use Rattle.std.proofs.Common.{◌≡◌, ◌++◌, true, false, length, drop, sym, ap, ◌∙◌, subst, arith, rules}
+use Rattle.std.proofs.lemmas.List.{length-append, length-drop, length-take}
 use Rattle.rows.specs.Openings.{if_open}
 use Rattle.bit_places.specs.Marked.{marked}
-use Rattle.bit_places.specs.Opened.{cleared, words_for}
-use Rattle.bit_places.proofs.Openings.{opened, cleared_rows, no_rows}
+use Rattle.bit_places.specs.Opened.{cleared}
+use Rattle.bit_places.proofs.Openings.{Fitting, opened, open_live, open_sized, cleared_rows, no_rows}
 use Rattle.bits.proofs.Bits.make.Goals as goal
-use Rattle.bits.proofs.Bits.make.Goals.{After-base, at-returns}
+use Rattle.bits.proofs.Bits.make.Goals.{After-words, After-base}
 
-pub loop-i-init : goal.loop-i-init
-loop-i-init c = fill_none c.args.words.now 0
+fits : (c : After-words) → Fitting (length c.args.words.now) c.in-Ok.layout.width
+fits c = let o = c.in-Ok.ensures.opened in subst (Fitting (length c.args.words.now)) (sym o.0) (opened (length c.args.words.now) c.args.width o.2)
 
-in_words : (c : goal.In-loop-i) → c.loop-i.i < length c.args.words.now
-in_words c =
-    let f = opened (length c.args.words.now) c.args.width c.in-Ok.ensures.answer in
-    omega (arith, f.room, c.words_for-needed.ensures, c.loop-i-test.true)
-
-pub bounds-words-i : goal.bounds-words-i
-bounds-words-i c = let l = in_words c in omega (arith, c.loop-i.auto.words)
-
-pub loop-i-preserved : goal.loop-i-preserved
-loop-i-preserved c = ap (λ ws. set ws c.loop-i.i 0) c.loop-i.invariant ∙ fill_more c.loop-i.i 0 c.args.words.now (in_words c)
-
--- the words after the loop, and that they hold no row
-clear : (c : goal.After-base) → c.loop-i.words ≡ cleared (words_for c.args.width) c.args.words.now
-clear c =
-    let n : c.loop-i.i ≡ words_for c.args.width = omega (arith, c.words_for-needed.ensures) in
-    c.loop-i.invariant ∙ ap (λ k. cleared k c.args.words.now) n
-
-empty : (c : goal.After-base) → marked c.args.width c.loop-i.words 0 c.base.result ≡ []
-empty c =
-    let e = c.base.ensures in
-    ap (λ ws. marked c.args.width ws 0 c.base.result) (clear c)
-    ∙ cleared_rows c.args.width (words_for c.args.width) c.args.words.now c.base.result (omega arith)
-
-pub invariant_of-result : goal.invariant_of-result
-invariant_of-result c = record { narrow = omega arith; sized = refl; room = omega arith; counted = ap length (no_rows 1 c.args.words.now) }
+pub invariant_of-result-in_default-clause-counted : goal.invariant_of-result-in_default-clause-counted
+invariant_of-result-in_default-clause-counted c = ap length (no_rows 1 c.args.words.now)
 
 pub invariant_of-result-2 : goal.invariant_of-result-2
 invariant_of-result-2 c =
-    let f = opened (length c.args.words.now) c.args.width c.in-Ok.ensures.answer in
+    let ws = c.args.words.now in
+    let w = c.in-Ok.layout.width in
+    let f = fits (goal.at.invariant_of-result-2 c).After-words in
+    let z : c.fill.new.self ++ drop c.words.result ws ≡ cleared c.words.result ws = search rules in
     record {
-      narrow = f.narrow;
-      sized = c.base.ensures;
-      room = omega (arith, f.room, c.base.ensures, c.loop-i.auto.words);
-      counted = ap length (empty c);
+      sized = open_sized (length ws) w c.base.result f c.base.ensures.is;
+      small = c.base.ensures.most;
+      room = omega (arith, f.room, c.base.ensures.is, c.fill.ensures.len, length-append c.fill.new.self (drop c.words.result ws), length-take c.words.result ws, length-drop c.words.result ws);
+      counted = ap (λ vs. length (marked w vs 0 c.base.result)) z ∙ ap length (cleared_rows w c.words.result ws c.base.result (omega (arith, c.words.ensures, c.base.ensures.is)));
     }
 
-pub returns-in_default : goal.returns-in_default
-returns-in_default c =
-    let e = c.in_default.ensures.answer in
+pub returns-clause-live : goal.returns-clause-live
+returns-clause-live c =
     let ws = c.args.words.now in
-    record {
-      words = ap (λ o. if_open o (cleared (words_for c.args.width) ws) ws) e;
-      place = refl;
-      live = ap (λ o. if_open o true false) e;
-      width = ap (λ o. if_open o c.args.width 1) e;
-      rows = no_rows 1 ws;
-    }
-
-pub returns : goal.returns
-returns c =
-    let e = c.in-Ok.ensures.answer in
-    let ws = c.args.words.now in
-    record {
-      words = clear (goal.at.returns c).After-base ∙ ap (λ o. if_open o (cleared (words_for c.args.width) ws) ws) e;
-      place = refl;
-      live = ap (λ o. if_open o true false) e;
-      width = ap (λ o. if_open o c.args.width 1) e;
-      rows = empty (goal.at.returns c).After-base;
-    }
+    open_live (length ws) c.in-Ok.layout.width c.base.result (fits (goal.at.returns-clause-live c).After-words) c.base.ensures.is
+    ∙ ap (λ o. if_open o true false) c.in-Ok.ensures.opened.2

@@ -1,15 +1,17 @@
-use Rattle.std.proofs.Common.{rules}
-use Rattle.bit_places.proofs.Lawfuls.{places_small}
-use Rattle.bit_places.proofs.Openings.{limits_are}
+use Rattle.std.proofs.Common.{sym, ap, ◌∙◌}
+use Rattle.std.proofs.lemmas.Bool.{lt-ltb, le-ltb}
+use Rattle.bit_places.specs.Opened.{each_limit}
+use Rattle.bit_places.proofs.Openings.{each_shut, limits_are}
 use Rattle.bits.proofs.BitsTable.limits.Goals as goal
 
-pub overflow_cast-result : goal.overflow_cast-result
-overflow_cast-result c =
+pub returns-then-self-gt0 : goal.returns-then-self-gt0
+returns-then-self-gt0 c =
     let s = c.args.self.now in
-    let p = places_small s.width s.live s.places s.narrow s.sized in
-    search rules
+    let w = s.layout.width in
+    limits_are c.width.result w s.places _ c.each.result c.width.ensures s.sized (c.each.ensures ∙ ap (λ b. each_limit b w) (sym (lt-ltb 0 s.places c.if-self-gt0.true)))
 
-pub returns : goal.returns
-returns c =
+pub returns-else-self-gt0 : goal.returns-else-self-gt0
+returns-else-self-gt0 c =
     let s = c.args.self.now in
-    limits_are s.width s.places s.live c.each_for.result s.sized c.each_for.ensures
+    let w = s.layout.width in
+    limits_are c.width.result w s.places _ _ c.width.ensures s.sized (each_shut w ∙ ap (λ b. each_limit b w) (sym (le-ltb 0 s.places c.if-self-gt0.false)))

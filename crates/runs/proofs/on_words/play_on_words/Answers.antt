@@ -20,12 +20,12 @@ returns g c =
     let t : List = c.play.new.t in
     let m = c.make-table.ensures in
     let room : 4 * t.used ≤ length t.words.now = omega (arith, t.within, t.room) in
-    let empty : ghosts.rows s ≡ [] = ap (λ (n : ℕ). gather s.words.now n) m.used in
+    let empty : ghosts.means.rows s ≡ [] = ap (λ (n : ℕ). gather s.words.now n) m.used in
     both c.play.result _ _ _
     (λ log played promised.
-    let w : Grew ghosts.rows ghosts.bounds ghosts.grew s t = trace_grew ghosts.rows ghosts.bounds ghosts.grew played.1 in
-    let words = grown_written {S = List} ghosts.grew (λ l. l.words.now) (λ l. l.used) (λ l r k h. (h.0, h.1)) s w.added t w.grown m.used room in
-    let place = grown_keeps {S = List} ghosts.grew (λ l. l.words.ghost_name) (λ l r k h. h.4) s w.added t w.grown in (
+    let w : Grew ghosts.means s t = trace_grew ghosts.means played.1 in
+    let words = grown_written {S = List} ghosts.means.grew (λ l. l.words.now) (λ l. l.used) (λ l r k h. (h.0, h.1)) s w.added t w.grown m.used room in
+    let place = grown_keeps {S = List} ghosts.means.grew (λ l. l.words.ghost_name) (λ l r k h. h.4) s w.added t w.grown in (
       w.added,
       c.words-1.given.1.1 (sym (place ∙ m.place)) ∙ words ∙ ap (written w.added) m.words,
       subst (λ xs. Promised (vec_items log) xs) (w.held ∙ ap (λ xs. joined xs w.added) empty) promised,

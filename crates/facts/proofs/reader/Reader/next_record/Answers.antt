@@ -1,26 +1,10 @@
-use Rattle.std.proofs.Common.{◌≡◌, ◌+◌, ◌-◌, ◌*◌, ◌<◌, ◌≤◌, [], ◌∷◌, ◌++◌, length, get_or, take, drop, Some, None, Ok, Err, Option, Result, sym, refl, ap, ◌∙◌, append_assoc, arith, length-append, ltb-false, ltb-true}
+use Rattle.std.proofs.Common.{◌≡◌, ◌+◌, ◌-◌, ◌*◌, ◌<◌, ◌≤◌, [], ◌∷◌, ◌++◌, length, get_or, take, drop, Some, Ok, Err, sym, refl, ap, ◌∙◌, append_assoc, arith, length-append, ltb-false}
 use Rattle.rows.specs.Rows.{places}
-use Rattle.facts.specs.declared.record.Record.{Record}
-use Rattle.facts.specs.declared.record.ReadFault.{ReadFault}
-use Rattle.facts.specs.declared.record.ReadFault.TheVariants.{LoneByte, UnknownMark, Cut}
+use Rattle.facts.specs.declared.record.ReadFault.TheVariants.{UnknownMark, Cut}
 use Rattle.facts.specs.Format.{mark, written, bytes_of, codes_of, Answered}
-use Rattle.facts.proofs.Bytes.{none_left, front_two, mark_two}
+use Rattle.facts.proofs.Bytes.{front_two, mark_two}
 use Rattle.facts.proofs.Files.{answered_once}
 use Rattle.facts.proofs.reader.Reader.next_record.Goals as goal
-
-pub returns-in-empty : goal.returns-in-empty
-returns-in-empty c =
-    let at = c.args.self.now.offset in
-    let bs = c.args.self.now.left.now in
-    let a : Answered at bs (Ok None) at bs = (none_left bs (omega (arith, ltb-true)), refl, refl) in
-    record { stands = a; only = λ s n cs b. answered_once at at n bs bs cs (Ok None) s a b }
-
-pub returns-in-len1 : goal.returns-in-len1
-returns-in-len1 c =
-    let at = c.args.self.now.offset in
-    let bs = c.args.self.now.left.now in
-    let a : Answered at bs (Err (LoneByte at)) at bs = (refl, omega (arith, ltb-true, ltb-false), refl, refl) in
-    record { stands = a; only = λ s n cs b. answered_once at at n bs bs cs (Err (LoneByte at)) s a b }
 
 pub returns-in_default : goal.returns-in_default
 returns-in_default c =
@@ -29,7 +13,7 @@ returns-in_default c =
     let two : 2 ≤ length bs = omega (arith, ltb-false) in
     let a : Answered at bs (Err (UnknownMark at)) at bs =
     (refl, (two, λ k m. c.in_default.ensures k m.0 (sym m.1 ∙ mark_two bs two)), refl, refl) in
-    record { stands = a; only = λ s n cs b. answered_once at at n bs bs cs (Err (UnknownMark at)) s a b }
+    record { stands = a; only = answered_once at at bs bs _ a }
 
 pub returns-in_default-row_of : goal.returns-in_default-row_of
 returns-in_default-row_of c =
@@ -43,7 +27,7 @@ returns-in_default-row_of c =
     let short : length bs < 2 + 2 * places k = omega (arith, long, c.in_default-row_of.ensures) in
     let a : Answered at bs (Err (Cut at)) at bs =
     (refl, (k, ((m.0, mark_two bs two ∙ sym m.1), short)), refl, refl) in
-    record { stands = a; only = λ s n cs b. answered_once at at n bs bs cs (Err (Cut at)) s a b }
+    record { stands = a; only = answered_once at at bs bs _ a }
 
 pub returns-in-Some-row_of : goal.returns-in-Some-row_of
 returns-in-Some-row_of c =
@@ -60,8 +44,7 @@ returns-in-Some-row_of c =
     ∙ ap (λ t. t ++ (bytes_of (codes_of row) ++ left)) (sym here)
     ∙ sym (append_assoc (mark row.relation) (bytes_of (codes_of row)) left) in
     let long : length bs ≡ length (written row) + length left = ap length whole ∙ length-append (written row) left in
-    let answer : Result (Option Record) ReadFault = Ok (Some (record { offset = at; row = row })) in
     let past = at + (length bs - length left) in
-    let a : Answered at bs answer past left =
+    let a : Answered at bs (Ok (Some (record { offset = at; row = row }))) past left =
     (refl, (omega (arith, m.0, e.0), e.1), whole, omega (arith, long)) in
-    record { stands = a; only = λ s n cs b. answered_once at past n bs left cs answer s a b }
+    record { stands = a; only = answered_once at past bs left _ a }
