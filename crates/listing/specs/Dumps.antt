@@ -10,3 +10,7 @@ abbrev pub Dumped : List ℕ → List ℕ → Type 0
 Dumped bytes text =
     ((found : List Row) × (Lists bytes found × (text ≡ lines_of found)))
     ⊎ ((fault : ListingFault) × (text ≡ fault_words fault ++ codes "\n"))
+
+-- of bytes that are not known: those that a reader gave
+abbrev pub DumpedOfSome : List ℕ → Type 0
+DumpedOfSome text = (bytes : List ℕ) × Dumped bytes text

@@ -1,7 +1,7 @@
 // Every derived row of a facts file as text, or the one line of its refusal.
 ghost use Rattle.std.specs.Prelude.{◌≡◌, ◌<◌, length, IfOk, Ok, Err, string_bytes, MatchResult};
 ghost use Rattle.listing.specs.Listing.{most, Lists, Listing};
-ghost use Rattle.listing.specs.Dumps.{Dumped};
+ghost use Rattle.listing.specs.Dumps.{Dumped, DumpedOfSome};
 
 use crate::derive::derive;
 use crate::fault::{ListingFault, refusal};
@@ -21,8 +21,10 @@ pub const WORDS: usize = 262_140;
 
 pub const WIDTH: u32 = 65_535;
 
-// The listing of what is read from outside.
-pub fn dump_input<R: Read + Drop>(heap: Global, input: R) -> Result<String, AllocError> {
+// The listing of what is read from outside: that of some bytes, since no contract says which a reader gives.
+pub fn dump_input<R: Read + Drop>(heap: Global, input: R) -> Result<String, AllocError>
+    ensures { IfOk result (λ s. DumpedOfSome (string_bytes s)) }
+{
     match read_input(heap, input) {
         Ok(bytes) => dump(heap, bytes.as_slice()),
         Err(fault) => refusal(heap, fault),
