@@ -5,6 +5,7 @@ ghost use Rattle.std.specs.Prelude.{◌≡◌};
 ghost use Rattle.rows.specs.Tables.{standing};
 
 use rows::answer::{Limits, Outcome, TableFault};
+use rows::like::Like;
 use rows::row::Row;
 use std::cell::Cell;
 use table::Table;
@@ -53,6 +54,22 @@ impl<T: Table> Table for Counted<T> {
     fn next(&self, r: Row) -> Option<Row> {
         self.nexts.set(self.nexts.get().saturating_add(1));
         self.below.next(r)
+    }
+
+    // The search by `next` alone, whatever the table below has: its calls are what is counted. So it ends as a walk does, with a
+    // row past those of the relation, or none.
+    fn next_like(&self, from: Row, like: Like) -> Option<Row> {
+        let mut at = from;
+        while let Some(r) = self.next(like.place(at)) {
+            if r.relation != from.relation {
+                return None;
+            }
+            if like.fits(&r) {
+                return Some(r);
+            }
+            at = r.after();
+        }
+        None
     }
 
     fn count(&self) -> u32 {

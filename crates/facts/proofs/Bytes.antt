@@ -20,6 +20,12 @@ mark_two [] h = absurd (omega arith)
 mark_two (x ∷ []) h = absurd (omega arith)
 mark_two (x ∷ y ∷ bs) h = refl
 
+-- the front two, each by itself
+pub each_front : (bs front : List ℕ) → 2 ≤ length bs → front ≡ take 2 bs → (get_or front 0 0 ∷ get_or front 1 0 ∷ []) ≡ take 2 bs
+each_front [] front h e = absurd (omega arith)
+each_front (x ∷ []) front h e = absurd (omega arith)
+each_front (x ∷ y ∷ bs) front h e = ap (λ z. get_or z 0 0 ∷ get_or z 1 0 ∷ []) e
+
 -- the code of the two bytes at the front
 pub code_bytes : (bs code rest : List ℕ) (n : ℕ) → 2 ≤ length bs → ((i : ℕ) → get_or bs i 0 < 256) → code ≡ take 2 bs → rest ≡ drop 2 bs → n ≡ from_le_bytes w16 code → bs ≡ two_bytes n ++ rest
 code_bytes [] code rest n two small c r e = absurd (omega arith)

@@ -76,6 +76,6 @@ fn row_of(relation: u32, bytes: &[u8]) -> Option<(Row, &[u8])>
 fn code(bytes: &[u8]) -> Option<(u32, &[u8])>
     ensures { MatchOption result (length bytes.now < 2) (λ x. (x.0 < 65536) × (bytes.now ≡ two_bytes x.0 ++ x.1.now)) }
 {
-    let (code, rest) = bytes.split_first_chunk()?;
-    Some((u32::from(u16::from_le_bytes(*code)), rest))
+    let ([low, high], rest) = bytes.split_first_chunk::<2>()?;
+    Some((u32::from(u16::from_le_bytes([*low, *high])), rest))
 }

@@ -31,6 +31,7 @@ impl Row {
     }
 
     // `<`, told by the order of the definitions.
+    #[tactic(auto, using(crate::proofs::Derived::by_code, crate::proofs::Derived::by_last), unfolding(crate::specs::Rows::before))]
     pub fn before(&self, other: &Row) -> bool
         ensures { result ≡ before self.now other.now }
     {

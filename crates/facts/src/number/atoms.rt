@@ -70,7 +70,7 @@ impl Atom for Number {
 }
 
 // Points of one kind, bare numbers for the other four kinds.
-pub struct Kinds<P>(PhantomData<P>);
+pub struct Kinds<P>(pub PhantomData<P>);
 
 impl<P: Atom> FactTypes for Kinds<P> {
     type Origin = Number;
